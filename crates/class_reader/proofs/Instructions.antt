@@ -1,0 +1,50 @@
+-- Reading the instructions of a code array one after the other, as a loop does.
+use Rattle.std.proofs.Common.{◌≡◌, ℕ, zero, suc, ◌+◌, ◌-◌, ◌≤◌, true, false, eqb, List, [], ◌∷◌, ◌++◌, length, Result, Ok, Err, refl, sym, ap, subst, ◌∙◌, append_assoc, arith}
+use Rattle.std.proofs.lemmas.List.{append-nil}
+use Rattle.std.proofs.lemmas.Bool.Decides.{nat_tests}
+use Rattle.class_reader.specs.declared.error.ClassError.{ClassError}
+use Rattle.jv_model.specs.Refusal.{Cause}
+use Rattle.jv_model.specs.Input.{Input, ◌>>=◌}
+use Rattle.jv_model.specs.Instruction.{Placed}
+use Rattle.jv_model.specs.Code.{placed_at, instructions_at}
+use Rattle.class_reader.specs.Gives.{Fails}
+use Rattle.class_reader.proofs.Failing.{Fails-first}
+
+-- these instructions, and those that are read behind them
+abbrev pub with_front : List Placed → Result (List Placed) Cause → Result (List Placed) Cause
+with_front front read = read >>= λ others. Ok (front ++ others)
+
+-- where bytes are left, the bound on the instructions isn't reached
+bound_left : (bound count left : ℕ) → eqb left 0 ≡ false → left + count ≤ bound → bound - count ≡ suc (bound - (count + 1))
+bound_left bound count left some room = grind (arith, nat_tests)
+
+regroup : (front : List Placed) (placed : Placed) (read : Result (List Placed) Cause) → with_front front (read >>= λ others. Ok (placed ∷ others)) ≡ with_front (front ++ placed ∷ []) read
+regroup front placed (Ok others) = ap (λ (instructions : List Placed). Ok instructions) (simp append_assoc)
+regroup front placed (Err cause) = refl
+
+pub goes_on : (front : List Placed) (bound count : ℕ) (input : Input) (placed : Placed) (rest : Input) (whole : Result (List Placed) Cause)
+    → eqb (length input.bytes) 0 ≡ false → length input.bytes + count ≤ bound → placed_at input ≡ Ok (placed, rest)
+    → with_front front (instructions_at (bound - count) input) ≡ whole → with_front (front ++ placed ∷ []) (instructions_at (bound - (count + 1)) rest) ≡ whole
+unfolding instructions_at
+goes_on front bound count input placed rest whole some room first so_far =
+    let one : with_front front (instructions_at (bound - count) input) ≡ with_front (front ++ placed ∷ []) (instructions_at (bound - (count + 1)) rest) =
+    rw (bound_left bound count (length input.bytes) some room, some, first) (regroup front placed (instructions_at (bound - (count + 1)) rest)) in
+    sym one ∙ so_far
+
+pub fails : (error : ClassError) (front : List Placed) (bound count : ℕ) (input : Input) (whole : Result (List Placed) Cause)
+    → eqb (length input.bytes) 0 ≡ false → length input.bytes + count ≤ bound → Fails error (placed_at input)
+    → with_front front (instructions_at (bound - count) input) ≡ whole → Fails error whole
+unfolding instructions_at
+fails error front bound count input whole some room first so_far =
+    subst (Fails error) so_far (rw (bound_left bound count (length input.bytes) some room, some) (Fails-first error _ _ (Fails-first error (placed_at input) _ first)))
+
+at_the_end : (bound : ℕ) (input : Input) → eqb (length input.bytes) 0 ≡ true → instructions_at bound input ≡ Ok []
+unfolding instructions_at
+at_the_end zero input none = rw none refl
+at_the_end (suc bound) input none = rw none refl
+
+pub is_done : (front : List Placed) (bound : ℕ) (input : Input) (whole : Result (List Placed) Cause)
+    → eqb (length input.bytes) 0 ≡ true → with_front front (instructions_at bound input) ≡ whole → whole ≡ Ok front
+is_done front bound input whole none so_far =
+    let one : with_front front (instructions_at bound input) ≡ Ok front = rw (at_the_end bound input none) (ap (λ (instructions : List Placed). Ok instructions) (append-nil front)) in
+    sym so_far ∙ one

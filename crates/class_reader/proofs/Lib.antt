@@ -1,0 +1,4 @@
+pub mod Failing
+pub mod Constants
+pub mod Instructions
+pub mod Returns

@@ -1,0 +1,20 @@
+-- Which entry of the definitions a `Constant` is.
+use Rattle.std.specs.Prelude.{List, ◌++◌, Result, Ok}
+use Rattle.class_reader.specs.declared.pool.Constant.{Constant}
+use Rattle.class_reader.specs.declared.pool.Constant.TheVariants.{Gap, Utf8, Integer, Class, Fieldref, Methodref, NameAndType}
+use Rattle.jv_model.specs.Refusal.{Cause}
+use Rattle.jv_model.specs.Input.{Input, ◌>>=◌}
+use Rattle.jv_model.specs.ConstantPool as model
+
+abbrev pub constant_of : Constant → model.Constant
+constant_of Gap = model.gap
+constant_of (Utf8 text) = model.utf8 text.now
+constant_of (Integer value) = model.integer value
+constant_of (Class name) = model.class_ref name
+constant_of (Fieldref class name_and_type) = model.field_ref class name_and_type
+constant_of (Methodref class name_and_type) = model.method_ref class name_and_type
+constant_of (NameAndType name descriptor) = model.name_and_type name descriptor
+
+-- these entries, and those that are read behind them
+abbrev pub with_front : List model.Constant → Result (List model.Constant × Input) Cause → Result (List model.Constant × Input) Cause
+with_front front read = read >>= λ others. Ok (front ++ others.0, others.1)

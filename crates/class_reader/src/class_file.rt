@@ -1,0 +1,162 @@
+//! A class file (JVMS 4.1) of one class with one method, its main.
+
+ghost use Rattle.std.specs.Prelude.{◌≡◌};
+ghost use Rattle.std.specs.Option.{option_copied};
+ghost use Rattle.jv_model.specs.ConstantPool.{is_text};
+ghost use Rattle.jv_model.specs.ClassFile.{version_at, begins_with, is_reserved, is_wanted, class_head_at, has_text, method_head_at, code_attribute_at, main_body_of};
+ghost use Rattle.class_reader.specs.Body.{body_of};
+ghost use Rattle.class_reader.specs.Gives.{Gives};
+
+use crate::body::Body;
+use crate::code::read_body;
+use crate::error::ClassError;
+use crate::input::Input;
+use crate::pool::Pool;
+use std::alloc::Global;
+
+/// The most bytes that a class file has.
+const MOST_FILE_BYTES: usize = 1_048_576;
+
+/// What each class file begins with.
+const MAGIC: u32 = 0xcafe_babe;
+
+/// The flags of a method that is public and static, and nothing else (JVMS 4.6).
+const PUBLIC_STATIC: u16 = 9;
+
+/// Reads the magic number and the versions. The major ones are those of Java SE 7 and 8.
+#[tactic(auto, unfolding(jv_model::specs::ClassFile::version_at))]
+fn read_version(input: &mut Input) -> Result<(), ClassError>
+    ensures { Gives (λ _. input.new) result (version_at input.old) }
+{
+    if input.u4()? != MAGIC {
+        return Err(ClassError::Later);
+    }
+    let _minor = input.u2()?;
+    let major = input.u2()?;
+    if major != 51 && major != 52 {
+        return Err(ClassError::Later);
+    }
+    Ok(())
+}
+
+/// Whether a text is there and is this one.
+fn is_text(found: Option<&[u8]>, wanted: &[u8]) -> bool
+    ensures { result ≡ is_text (option_copied found.entry) wanted.now }
+{
+    match found {
+        Some(text) => text == wanted,
+        None => false,
+    }
+}
+
+fn begins_with(front: &[u8], name: &[u8]) -> bool
+    ensures { result ≡ begins_with front.now name.now }
+{
+    name.starts_with(front)
+}
+
+/// Whether only the machine's own classes have such a name.
+fn is_reserved(name: &[u8]) -> bool
+    ensures { result ≡ is_reserved name.now }
+{
+    begins_with(b"java/", name) || begins_with(b"jvolve/", name) || begins_with(b"jvold/", name)
+}
+
+/// Whether the class at an index is the one that is asked for, which has to be the main class and
+/// none of the machine's own.
+fn is_wanted(pool: &Pool, class: &str, main: &str, index: u16) -> bool
+    ensures { result ≡ is_wanted pool.now class.now main.now index }
+{
+    is_text(pool.class_name(index), class.as_bytes())
+        && class == main
+        && !is_reserved(class.as_bytes())
+}
+
+/// Reads any flags, the class, its superclass, no interfaces and no fields.
+#[tactic(auto, unfolding(jv_model::specs::ClassFile::class_head_at))]
+fn read_class_head(
+    pool: &Pool,
+    class: &str,
+    main: &str,
+    input: &mut Input,
+) -> Result<(), ClassError>
+    ensures { Gives (λ _. input.new) result (class_head_at pool.now class.now main.now input.old) }
+{
+    let _flags = input.u2()?;
+    let this_class = input.u2()?;
+    if !is_wanted(pool, class, main, this_class) {
+        return Err(ClassError::Later);
+    }
+    let super_class = input.u2()?;
+    if !is_text(pool.class_name(super_class), b"java/lang/Object") {
+        return Err(ClassError::Later);
+    }
+    input.u2_of(0)?;
+    input.u2_of(0)
+}
+
+fn has_text(pool: &Pool, text: &[u8], index: u16) -> bool
+    ensures { result ≡ has_text pool.now text.now index }
+{
+    is_text(pool.text(index), text)
+}
+
+/// Reads one method (JVMS 4.6), which is public, static and named main, with one attribute.
+#[tactic(auto, unfolding(jv_model::specs::ClassFile::method_head_at))]
+fn read_method_head(pool: &Pool, input: &mut Input) -> Result<(), ClassError>
+    ensures { Gives (λ _. input.new) result (method_head_at pool.now input.old) }
+{
+    input.u2_of(1)?;
+    input.u2_of(PUBLIC_STATIC)?;
+    let name = input.u2()?;
+    if !has_text(pool, b"main", name) {
+        return Err(ClassError::Later);
+    }
+    let descriptor = input.u2()?;
+    if !has_text(pool, b"([Ljava/lang/String;)V", descriptor) {
+        return Err(ClassError::Later);
+    }
+    input.u2_of(1)
+}
+
+/// Reads the method's attribute, which is its code (JVMS 4.7).
+#[tactic(auto, unfolding(jv_model::specs::ClassFile::code_attribute_at))]
+fn read_code_attribute(alloc: Global, pool: &Pool, input: &mut Input) -> Result<Body, ClassError>
+    ensures { Gives (λ body. (body_of body, input.new)) result
+        (code_attribute_at pool.now input.old) }
+{
+    let name = input.u2()?;
+    if !has_text(pool, b"Code", name) {
+        return Err(ClassError::Later);
+    }
+    let count = input.u4()?;
+    let bytes = input.run(count)?;
+    read_body(alloc, bytes)
+}
+
+/// The code of the main method in the bytes of a class file, of at most 1,048,576 bytes (JVMS 4.1).
+///
+/// `class` is the name of the class that the file has to hold, and `main` that of the main class,
+/// both as the file spells them, with `/` between their parts.
+///
+/// The error is the first item that isn't whole, or the first thing in a form that isn't built yet,
+/// as a second class, a field or a second method. A longer file has such a form as a whole.
+#[tactic(auto, unfolding(jv_model::specs::ClassFile::main_body_of))]
+pub fn read_main(alloc: Global, bytes: &[u8], class: &str, main: &str) -> Result<Body, ClassError>
+    ensures { Gives body_of result (main_body_of class.now main.now bytes.now) }
+{
+    if bytes.len() > MOST_FILE_BYTES {
+        return Err(ClassError::Later);
+    }
+    let mut input = Input::whole_of(bytes);
+    read_version(&mut input)?;
+    let pool = Pool::read(alloc, &mut input)?;
+    read_class_head(&pool, class, main, &mut input)?;
+    read_method_head(&pool, &mut input)?;
+    let body = read_code_attribute(alloc, &pool, &mut input)?;
+    input.u2_of(0)?;
+    if !input.is_empty() {
+        return Err(ClassError::Later);
+    }
+    Ok(body)
+}

@@ -1,0 +1,26 @@
+//! Why a class file isn't read.
+
+ghost use Rattle.std.specs.Prelude.{◌≡◌};
+ghost use Rattle.class_reader.specs.declared.error.ClassError.TheVariants as errors;
+
+use jv_types::NoMemory;
+
+/// Why a class file isn't read: the first item that isn't whole, or the first thing in a form that
+/// isn't built yet. An item is one number or one run of bytes (JVMS 4.1).
+#[derive(Clone, Copy, Debug, PartialEq, Eq)]
+pub enum ClassError {
+    /// The item that begins at this byte of the file, counted from 0, isn't whole.
+    Truncated { at: u32 },
+    /// The file has a form that this version doesn't run yet, or one that no class file has.
+    Later,
+    /// There was no memory for what was read. It says nothing about the file.
+    NoMemory,
+}
+
+impl From<NoMemory> for ClassError {
+    ghost from_gives = { λ _ error. error ≡ errors.NoMemory };
+
+    fn from(_error: NoMemory) -> ClassError {
+        ClassError::NoMemory
+    }
+}

@@ -1,0 +1,105 @@
+//! The bytes of a class file, read from the front (JVMS 4).
+
+ghost use Rattle.std.specs.Prelude.{◌≡◌, ◌≤◌, ◌+◌, ◌==◌, length, IfOk, OnOk};
+ghost use Rattle.jv_model.specs.Limits.{most_file_bytes};
+ghost use Rattle.jv_model.specs.Input.{whole_of, number_at, number_where, run_of};
+ghost use Rattle.class_reader.specs.Gives.{Gives};
+
+use crate::error::ClassError;
+use byteorder::{BigEndian, ByteOrder};
+use std::marker::Model;
+
+/// The bytes that are still to be read, and the place of the first of them. Contracts see the
+/// definitions' own `Input`. After an error nothing is said of it.
+#[derive(Drop)]
+pub struct Input<'a> {
+    at: u32,
+    bytes: &'a [u8],
+}
+
+impl<'a> Model for Input<'a> {
+    ghost use Rattle.std.specs.Prelude.{◌+◌, ◌≤◌, length};
+    ghost use Rattle.jv_model.specs.Limits.{most_file_bytes};
+    ghost use Rattle.jv_model.specs.Input.{Input as ModelInput};
+
+    ghost Value = { ModelInput };
+
+    ghost view = { λ it. record { at = it.at; bytes = it.bytes.now } };
+
+    // No file is longer, so each place in it has 32 bits.
+    ghost invariant = { λ it. it.at + length it.bytes.now ≤ most_file_bytes };
+}
+
+impl<'a> Input<'a> {
+    /// The whole of the bytes, to be read from place 0.
+    pub fn whole_of(bytes: &'a [u8]) -> Input<'a>
+        requires { length bytes.now ≤ most_file_bytes }
+        ensures { result ≡ whole_of bytes.now }
+    {
+        Input { at: 0, bytes }
+    }
+
+    /// The place of the next byte.
+    pub fn at(&self) -> u32
+        ensures { result ≡ self.now.at }
+    {
+        self.at
+    }
+
+    /// Whether no bytes are left.
+    pub fn is_empty(&self) -> bool
+        ensures { result ≡ (length self.now.bytes == 0) }
+    {
+        self.bytes.is_empty()
+    }
+
+    /// The next run of so many bytes.
+    pub fn run(&mut self, count: u32) -> Result<&'a [u8], ClassError>
+        ensures run { Gives (λ run. (run.now, self.new)) result (run_of count self.old) }
+        ensures short { IfOk result (λ run. length run.now ≤ most_file_bytes) }
+        ensures left { OnOk result (length self.new.bytes + count ≡ length self.old.bytes) }
+    {
+        let Some((run, rest)) = self.bytes.split_at_checked(count as usize) else {
+            return Err(ClassError::Truncated { at: self.at });
+        };
+        self.at += count;
+        self.bytes = rest;
+        Ok(run)
+    }
+
+    /// The next number of one byte, a `u1`.
+    pub fn u1(&mut self) -> Result<u8, ClassError>
+        ensures number { Gives (λ number. (number, self.new)) result (number_at 1 self.old) }
+        ensures left { OnOk result (length self.new.bytes + 1 ≡ length self.old.bytes) }
+    {
+        let bytes = self.run(1)?;
+        Ok(bytes[0])
+    }
+
+    /// The next number of two bytes, a `u2`.
+    pub fn u2(&mut self) -> Result<u16, ClassError>
+        ensures { Gives (λ number. (number, self.new)) result (number_at 2 self.old) }
+    {
+        let bytes = self.run(2)?;
+        Ok(BigEndian::read_u16(bytes))
+    }
+
+    /// The next number of four bytes, a `u4`.
+    pub fn u4(&mut self) -> Result<u32, ClassError>
+        ensures { Gives (λ number. (number, self.new)) result (number_at 4 self.old) }
+    {
+        let bytes = self.run(4)?;
+        Ok(BigEndian::read_u32(bytes))
+    }
+
+    /// The next `u2`, which has to be this one.
+    pub fn u2_of(&mut self, wanted: u16) -> Result<(), ClassError>
+        ensures { Gives (λ _. (wanted, self.new)) result
+            (number_where 2 (λ number. number == wanted) self.old) }
+    {
+        if self.u2()? != wanted {
+            return Err(ClassError::Later);
+        }
+        Ok(())
+    }
+}

@@ -1,0 +1,14 @@
+-- How much a program may bring.
+use Rattle.std.specs.Prelude.{ℕ}
+
+-- how many bytes a manifest or a class file has at the most
+abbrev pub most_file_bytes : ℕ
+most_file_bytes = 1048576
+
+-- how many class files a manifest names at the most
+abbrev pub most_classes : ℕ
+most_classes = 1
+
+-- how many words a frame has for its locals and its stack at the most
+abbrev pub most_frame_words : ℕ
+most_frame_words = 4096

@@ -1,0 +1,80 @@
+-- The machine of a program (JVMS 2.5): threads of frames, what they printed, and the steps that they made.
+use Rattle.std.specs.Prelude.{ℕ, zero, suc, ◌+◌, ◌-◌, List, [], ◌∷◌, Bool, ◌==◌, if◌then◌else◌, Option, Some, None, option_and_then, length, take, slice_get, slice_set, find}
+use Rattle.std.specs.List.{list_all}
+use Rattle.jv_model.specs.Instruction.{Instruction, return, Body}
+use Rattle.jv_model.specs.Status.{Status, finished}
+
+pub record Program : Type 0 where
+  -- the code of the main class's `main([Ljava/lang/String;)V`
+  pub main : Body
+
+-- A method that runs (JVMS 2.6).
+pub record Frame : Type 0 where
+  -- the place of the instruction that comes next
+  pub pc : ℕ
+
+-- A thread's frames, the oldest first. Without a frame the thread has ended.
+pub record Thread : Type 0 where
+  pub frames : List Frame
+
+pub record Machine : Type 0 where
+  pub program : Program
+  -- by their numbers
+  pub threads : List Thread
+  pub output : List ℕ
+  pub steps : ℕ
+
+-- At the start thread 0 is to run main from its first instruction.
+abbrev pub start : Program → Machine
+start program = record {
+  program = program;
+  threads = record { frames = record { pc = 0 } ∷ [] } ∷ [];
+  output = [];
+  steps = 0;
+}
+
+infixl 10 ◌>>=◌
+abbrev pub ◌>>=◌ : {A B : Type 0} → Option A → (A → Option B) → Option B
+o >>= f = option_and_then f o
+
+abbrev pub newest : Thread → Option Frame
+newest thread = slice_get thread.frames (length thread.frames - 1)
+
+-- the thread without its newest frame
+abbrev pub returned : Thread → Thread
+returned thread = record { frames = take (length thread.frames - 1) thread.frames }
+
+-- the machine one step on, with this as its thread t
+abbrev pub stepped : Machine → ℕ → Thread → Machine
+stepped machine t thread = record machine { threads = slice_set machine.threads t thread; steps = machine.steps + 1 }
+
+-- the machine after an instruction of thread t (JVMS 6.5)
+abbrev pub executed : Instruction → Machine → ℕ → Thread → Machine
+executed return machine t thread = stepped machine t (returned thread)
+
+-- the machine after the next step of thread t, where that thread can make one
+unfoldable pub step : ℕ → Machine → Option Machine
+step t machine = do
+  thread ← slice_get machine.threads t
+  frame ← newest thread
+  placed ← find (λ i. i.pc == frame.pc) machine.program.main.instructions
+  Some (executed placed.instruction machine t thread)
+
+-- that many steps of thread t, one after another, where it can make each of them
+unfoldable pub steps_of : ℕ → ℕ → Machine → Option Machine
+steps_of t zero machine = Some machine
+steps_of t (suc count) machine = step t machine >>= λ next. steps_of t count next
+
+abbrev pub has_ended : Thread → Bool
+has_ended thread = length thread.frames == 0
+
+-- how the run ended, where it has
+abbrev pub end_of : Machine → Option Status
+end_of machine = if list_all has_ended machine.threads then Some finished else None
+
+abbrev pub output_of : Machine → List ℕ
+output_of machine = machine.output
+
+-- a line per update of the running program; no program has updates yet
+abbrev pub report_of : Machine → List ℕ
+report_of machine = []

@@ -1,0 +1,33 @@
+-- The order in which `run` lets threads go: each in its turn, for a slice of steps.
+use Rattle.std.specs.Prelude.{◌≡◌, ℕ, ◌+◌, ◌≤◌, List, [], ◌∷◌, ◌++◌, Option, Some, IfSome, IsTrue, length, take, drop, find, IsSome}
+use Rattle.std.specs.List.{range_with_len}
+use Rattle.jv_model.specs.Machine.{Program, Machine, start, end_of}
+use Rattle.jv_model.specs.Journal.{Entry, run, attempt, made, is_legal, replay}
+
+abbrev pub most_slice_steps : ℕ
+most_slice_steps = 64
+
+-- the numbers of so many threads, from the cursor on and round
+abbrev pub turns_from : ℕ → ℕ → List ℕ
+turns_from cursor count = let threads = range_with_len 0 count in drop cursor threads ++ take cursor threads
+
+-- the first thread from the cursor on and round that can make a step
+abbrev pub next_thread : ℕ → Machine → Option ℕ
+next_thread cursor machine = find (λ t. is_legal (run t 1) machine) (turns_from cursor (length machine.threads))
+
+-- the greatest number of steps up to the slice's that thread t can make
+pub record IsSlice (machine : Machine) (t count : ℕ) : Type 0 where
+  pub legal : IsTrue (is_legal (run t count) machine)
+  pub within : count ≤ most_slice_steps
+  pub greatest : (more : ℕ) → more ≤ most_slice_steps → IsTrue (is_legal (run t more) machine) → more ≤ count
+
+-- Each entry is the slice of the thread whose turn it is; the turn behind it is that of the next number.
+abbrev pub TakesTurns : ℕ → Machine → List Entry → Type 0
+TakesTurns cursor machine [] = Unit {0}
+TakesTurns cursor machine (run t count ∷ entries) =
+    (next_thread cursor machine ≡ Some t) × IsSlice machine t count × IfSome (made (run t count) machine) (λ next. TakesTurns (t + 1) next entries)
+TakesTurns cursor machine (attempt ∷ entries) = ⊥
+
+-- a front of the program's round-robin journal
+abbrev pub IsRoundRobin : Program → List Entry → Type 0
+IsRoundRobin program entries = TakesTurns 0 (start program) entries

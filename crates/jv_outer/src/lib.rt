@@ -1,0 +1,26 @@
+//! What lies outside a machine: the files that it reads and the sinks that it writes to.
+//!
+//! It stands on `jv_model`, `jv_types` and `thiserror`. The contract above it is that of the two
+//! traits. `Files::read` gives the named file, or its first bytes where it is longer than a limit.
+//! `Sink::write` takes a first part of what it's given, and at least a byte where it is given any.
+//! Both answer `Failed` only where their count of faults rose, or stands at the highest number that
+//! it has, 2^64 - 1. Code above can't raise a count by itself, so it can't blame a fault that didn't
+//! come.
+//! `MemFiles` and `MemSink` fail exactly where they're told to; the real parts are a few lines each,
+//! and what a real file or terminal holds is told by no clause.
+#![tactic(auto)]
+
+pub mod disk;
+pub mod files;
+pub mod memory;
+pub mod sink;
+pub mod stream;
+
+pub use disk::DiskFiles;
+pub use files::{Files, ReadError};
+pub use memory::{MemFiles, MemSink};
+pub use sink::{Sink, WriteError, write_all};
+pub use stream::{FileSink, StdSink};
+
+#[cfg(test)]
+mod tests;

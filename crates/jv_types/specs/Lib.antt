@@ -1,0 +1,5 @@
+pub mod Sequence
+pub mod Units
+pub mod Entry
+pub mod Refusal
+pub mod Status

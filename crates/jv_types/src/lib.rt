@@ -1,0 +1,24 @@
+//! The plain data that every layer speaks of: lists with reserved room, texts, the entries of a
+//! journal, why input is refused, and how a call ends.
+//!
+//! It stands on `jv_model` alone. The contract above it is that the calls of `List` are those of a
+//! list, and that each type here is one of the definitions' own: `entry_of`, `cause_of`,
+//! `line_kind_of` and `status_of` say which value of the definitions a value is.
+#![tactic(auto)]
+
+pub mod entry;
+pub mod list;
+pub mod memory;
+pub mod refusal;
+pub mod status;
+pub mod text;
+
+pub use entry::{Entry, ThreadNo};
+pub use list::List;
+pub use memory::NoMemory;
+pub use refusal::{Cause, LineKind};
+pub use status::Status;
+pub use text::{Bytes, Text};
+
+#[cfg(test)]
+mod tests;

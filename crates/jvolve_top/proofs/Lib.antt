@@ -1,0 +1,9 @@
+pub mod SplitLemmas
+pub mod WordLemmas
+pub mod LineLemmas
+pub mod FaultLemmas
+pub mod TextLemmas
+pub mod StraightLemmas
+pub mod LoadLemmas
+pub mod RunLemmas
+pub mod OutcomeLemmas

@@ -1,0 +1,65 @@
+-- A text cut into lines.
+use Rattle.std.proofs.Common.{◌≡◌, ℕ, ◌<◌, ◌≤◌, Bool, true, false, not, cond, ltb, List, [], ◌∷◌, length, Some, None, position, ap, ◌∙◌, sym, refl, eqb, arith, inl, inr}
+use Rattle.std.specs.List.{slice_split, position_or_len, before_first, after_first}
+use Rattle.std.proofs.lemmas.List.Sums.{prefix_len-le-length}
+use Rattle.std.proofs.lemmas.List.Splits.{slice_split_first}
+use Rattle.std.proofs.lemmas.List.{nil_from_length}
+use Rattle.std.proofs.lemmas.Bool.{ne_eqb, ltb-true, ltb-false, cases_lt}
+use Rattle.jv_model.specs.Lines.{lines_from, lines_of}
+use Rattle.jvolve_top.proofs.SplitLemmas.{slice_split_some, slice_split_only}
+
+lines_from_more : (part text : List ℕ) → lines_from (part ∷ slice_split (λ byte. eqb byte 10) text) ≡ record { bytes = part; is_ended = true } ∷ lines_of text
+lines_from_more part text =
+    let some = slice_split_some (λ byte. eqb byte 10) text in
+    ap (λ parts. lines_from (part ∷ parts)) some.is ∙ ap (λ parts. record { bytes = part; is_ended = true } ∷ lines_from parts) (sym some.is)
+
+-- cut at the first line feed
+pub lines_of_first : (text line rest : List ℕ) → position_or_len (λ byte. eqb byte 10) text < length text → line ≡ before_first (λ byte. eqb byte 10) text
+    → rest ≡ after_first (λ byte. eqb byte 10) text → lines_of text ≡ record { bytes = line; is_ended = true } ∷ lines_of rest
+lines_of_first text line rest has line-is rest-is =
+    ap lines_from (slice_split_first (λ byte. eqb byte 10) text 0 has) ∙ rw (line-is, rest-is) (lines_from_more (before_first (λ byte. eqb byte 10) text) (after_first (λ byte. eqb byte 10) text))
+
+-- a last line that nothing ends
+pub lines_of_only : (text : List ℕ) → 0 < length text → position_or_len (λ byte. eqb byte 10) text ≡ length text → lines_of text ≡ record { bytes = text; is_ended = false } ∷ []
+lines_of_only text some lacks =
+    let not_empty : eqb (length text) 0 ≡ false = ne_eqb (length text) 0 (omega arith) in
+    ap lines_from (slice_split_only (λ byte. eqb byte 10) text lacks) ∙ rw not_empty
+
+-- ---- what a search for the first line feed tells
+
+pub record IsFirstPlace (text : List ℕ) (end : ℕ) : Type 0 where
+  pub within : position_or_len (λ byte. eqb byte 10) text < length text
+  pub is : position_or_len (λ byte. eqb byte 10) text ≡ end
+
+place_cases : (b : Bool) (place end : ℕ) → Some end ≡ cond b (Some place) None → (b ≡ true) × (place ≡ end)
+place_cases true place end is = (refl, cc)
+place_cases false place end is = absurd cc
+
+none_cases : (b : Bool) (place : ℕ) → None ≡ cond b (Some place) None → b ≡ false
+none_cases true place is = absurd cc
+none_cases false place is = refl
+
+pub first_place : (text : List ℕ) (end : ℕ) → Some end ≡ position (λ byte. eqb byte 10) text → IsFirstPlace text end
+first_place text end is =
+    let cases = place_cases (ltb (position_or_len (λ byte. eqb byte 10) text) (length text)) (position_or_len (λ byte. eqb byte 10) text) end is in
+    record { within = ltb-true _ _ cases.0; is = cases.1 }
+
+pub no_place : (text : List ℕ) → None ≡ position (λ byte. eqb byte 10) text → position_or_len (λ byte. eqb byte 10) text ≡ length text
+no_place text is =
+    let far : length text ≤ position_or_len (λ byte. eqb byte 10) text = ltb-false _ _ (none_cases (ltb (position_or_len (λ byte. eqb byte 10) text) (length text)) (position_or_len (λ byte. eqb byte 10) text) is) in
+    omega (arith, prefix_len-le-length (λ byte. not (eqb byte 10)) text)
+
+has_line : (text : List ℕ) → 0 < length text → length (lines_of text) ≡ 0 → ⊥
+has_line text some is =
+    elim (cases_lt (position_or_len (λ byte. eqb byte 10) text) (length text)) [
+      | inl has ↦ let line = ap length (lines_of_first text _ _ has refl refl) in omega arith
+      | inr lacks ↦ let line = ap length (lines_of_only text some (omega (arith, prefix_len-le-length (λ byte. not (eqb byte 10)) text))) in omega arith
+    ]
+
+-- a text without a byte has no line, and any other has one
+pub lines_of_empty : (text : List ℕ) → eqb (length (lines_of text)) 0 ≡ eqb (length text) 0
+lines_of_empty text =
+    elim (cases_lt 0 (length text)) [
+      | inl some ↦ ne_eqb _ 0 (has_line text some) ∙ sym (ne_eqb _ 0 (λ is. omega arith))
+      | inr none ↦ rw (nil_from_length text (omega arith)) refl
+    ]

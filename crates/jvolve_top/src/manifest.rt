@@ -1,0 +1,171 @@
+//! The manifest's text.
+
+ghost use Rattle.std.specs.Prelude.{◌≡◌, ◌≢◌, ◌≤◌, ◌<◌, ◌+◌, ◌++◌, [], Some, None, IsNone, length, option_map, option_to_list, MatchResult, IfSome, IfNone, slice_get, unwrap_or, ◌&&◌, false, true};
+ghost use Rattle.std.specs.Str.{is_utf8};
+ghost use Rattle.jv_types.specs.Refusal.{line_kind_of};
+ghost use Rattle.jv_model.specs.Limits.{most_file_bytes};
+ghost use Rattle.jv_model.specs.Lines.{lines_of};
+ghost use Rattle.jv_model.specs.Manifest.{missing_main, statement_fault, first_line_fault, later_line_fault, unless_not_text, statement_of, manifest_of};
+ghost use Rattle.jvolve_top.specs.Statements.{line_view, said, main_list, class_list, mains, classes, GoesOn, AreRead, IsManifest};
+
+use crate::line::{Line, split_line};
+use crate::statement::{ClassItem, Statement, read_statement};
+use jv_types::LineKind;
+use std::str;
+
+/// What a manifest says.
+#[derive(Clone, Copy)]
+pub(crate) struct Manifest<'a> {
+    /// The main class.
+    pub(crate) main: &'a str,
+    /// The class file.
+    pub(crate) class: Option<ClassItem<'a>>,
+}
+
+/// The first line at which something is wrong, by its number from 1, and what.
+#[derive(Clone, Copy)]
+pub(crate) struct LineFault {
+    pub(crate) line: u32,
+    pub(crate) kind: LineKind,
+}
+
+/// What the statements so far say.
+#[derive(Clone, Copy)]
+struct Statements<'a> {
+    main: Option<&'a str>,
+    class: Option<ClassItem<'a>>,
+}
+
+/// The last line is where a main line that never came is told.
+fn missing_main(main: Option<&str>, is_last: bool) -> Option<LineKind>
+    ensures { option_map line_kind_of result ≡ missing_main (main_list main.entry) is_last }
+{
+    if main.is_none() && is_last {
+        return Some(LineKind::Main);
+    }
+    None
+}
+
+/// What the statements say together with the next one, or what is wrong with that one.
+fn next_statement<'a>(
+    so_far: Statements<'a>,
+    next: Statement<'a>,
+    is_last: bool,
+) -> Result<Statements<'a>, LineKind>
+    ensures { GoesOn result so_far.entry (said next.entry) (statement_fault (mains so_far.entry) (classes so_far.entry) (said next.entry) is_last) }
+{
+    match next {
+        Statement::Faulty(kind) => Err(kind),
+        Statement::Main(main) => match so_far.main {
+            Some(_) => Err(LineKind::Main),
+            None => Ok(Statements {
+                main: Some(main),
+                class: so_far.class,
+            }),
+        },
+        Statement::Class(item) => match so_far.class {
+            Some(_) => Err(LineKind::Many),
+            None => match missing_main(so_far.main, is_last) {
+                Some(kind) => Err(kind),
+                None => Ok(Statements {
+                    main: so_far.main,
+                    class: Some(item),
+                }),
+            },
+        },
+    }
+}
+
+/// The line's text, where it is one.
+fn text_of<'a>(line: &Line<'a>) -> Option<&'a str>
+    ensures none { IfNone result ((line.now.is_ended && is_utf8 line.now.bytes.now) ≡ false) }
+    ensures some { IfSome result (λ text. (text.now ≡ line.now.bytes.now) × ((line.now.is_ended && is_utf8 line.now.bytes.now) ≡ true)) }
+{
+    if !line.is_ended {
+        return None;
+    }
+    match str::from_utf8(line.bytes) {
+        Ok(text) => Some(text),
+        Err(_) => None,
+    }
+}
+
+/// What is wrong with the first line.
+fn first_line_fault(line: &Line<'_>, is_last: bool) -> Option<LineKind>
+    ensures { option_map line_kind_of result ≡ first_line_fault (line_view line.now) is_last }
+{
+    let Some(text) = text_of(line) else {
+        return Some(LineKind::Text);
+    };
+    if text == "jvolve 1" {
+        return missing_main(None, is_last);
+    }
+    Some(LineKind::Head)
+}
+
+/// What the statements say together with the next line's, or what is wrong with that line.
+fn next_line<'a>(
+    so_far: Statements<'a>,
+    line: &Line<'a>,
+    is_last: bool,
+) -> Result<Statements<'a>, LineKind>
+    ensures { GoesOn result so_far.entry (statement_of (line_view line.now)) (later_line_fault (mains so_far.entry) (classes so_far.entry) (line_view line.now) is_last) }
+{
+    let Some(text) = text_of(line) else {
+        return Err(LineKind::Text);
+    };
+    next_statement(so_far, read_statement(text), is_last)
+}
+
+/// What the lines behind the first say, or the first of them at which something is wrong.
+fn read_lines(text: &[u8]) -> Result<Statements<'_>, LineFault>
+    requires { length text.now ≤ most_file_bytes }
+    ensures { AreRead result (lines_of text.now) }
+{
+    let mut so_far = Statements {
+        main: None,
+        class: None,
+    };
+    let mut number = 1;
+    let mut rest = text;
+    while !rest.is_empty() {
+        let (line, after) = split_line(rest);
+        number += 1;
+        so_far = match next_line(so_far, &line, after.is_empty()) {
+            Ok(together) => together,
+            Err(kind) => return Err(LineFault { line: number, kind }),
+        };
+        rest = after;
+    }
+    Ok(so_far)
+}
+
+/// What statements say together. Where no line is faulty, one of them names the main class.
+fn together(statements: Statements<'_>) -> Manifest<'_>
+    ensures main { result.main.now ≡ unwrap_or (slice_get (mains statements.entry) 0) [] }
+    ensures classes { class_list result.class ≡ classes statements.entry }
+{
+    Manifest {
+        main: statements.main.unwrap_or(""),
+        class: statements.class,
+    }
+}
+
+/// What a manifest's text says, or the first line at which something is wrong.
+pub(crate) fn read_manifest(text: &[u8]) -> Result<Manifest<'_>, LineFault>
+    requires { length text.now ≤ most_file_bytes }
+    ensures { IsManifest result (manifest_of text.now) }
+{
+    if text.is_empty() {
+        let kind = LineKind::Head;
+        return Err(LineFault { line: 1, kind });
+    }
+    let (head, rest) = split_line(text);
+    match first_line_fault(&head, rest.is_empty()) {
+        Some(kind) => Err(LineFault { line: 1, kind }),
+        None => match read_lines(rest) {
+            Ok(statements) => Ok(together(statements)),
+            Err(fault) => Err(fault),
+        },
+    }
+}
