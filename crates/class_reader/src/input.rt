@@ -2,7 +2,7 @@
 
 ghost use Rattle.std.specs.Prelude.{◌≡◌, ◌≤◌, ◌+◌, ◌==◌, length, IfOk, OnOk};
 ghost use Rattle.jv_model.specs.Limits.{most_file_bytes};
-ghost use Rattle.jv_model.specs.Input.{whole_of, number_at, number_where, run_of};
+ghost use Rattle.jv_model.specs.Input.{whole_of, number_at, number_where, bytes_at};
 ghost use Rattle.class_reader.specs.Gives.{Gives};
 
 use crate::error::ClassError;
@@ -55,7 +55,7 @@ impl<'a> Input<'a> {
 
     /// The next run of so many bytes.
     pub fn run(&mut self, count: u32) -> Result<&'a [u8], ClassError>
-        ensures run { Gives (λ run. (run.now, self.new)) result (run_of count self.old) }
+        ensures run { Gives (λ run. (run.now, self.new)) result (bytes_at count self.old) }
         ensures short { IfOk result (λ run. length run.now ≤ most_file_bytes) }
         ensures left { OnOk result (length self.new.bytes + count ≡ length self.old.bytes) }
     {

@@ -2,7 +2,7 @@
 use Rattle.std.specs.Prelude.{ℕ, List, Bool, ◌&&◌, ◌||◌, not, ◌==◌, Result, Ok, length, bytes_eq, codes, take, nat_le}
 use Rattle.jv_model.specs.Limits.{most_file_bytes}
 use Rattle.jv_model.specs.Refusal.{Cause}
-use Rattle.jv_model.specs.Input.{Input, whole_of, ◌>>=◌, number_at, number_where, run_of, allowed}
+use Rattle.jv_model.specs.Input.{Input, whole_of, ◌>>=◌, number_at, number_where, bytes_at, allowed}
 use Rattle.jv_model.specs.ConstantPool.{Constant, pool_at, text_at, class_name_at, is_text}
 use Rattle.jv_model.specs.Instruction.{Body}
 use Rattle.jv_model.specs.Code.{body_of}
@@ -54,7 +54,7 @@ unfoldable pub code_attribute_at : List Constant → Input → Result (Body × I
 code_attribute_at pool input = do
   name ← number_where 2 (has_text pool (codes "Code")) input
   count ← number_at 4 name.1
-  bytes ← run_of count.0 count.1
+  bytes ← bytes_at count.0 count.1
   body ← body_of bytes.0
   Ok (body, bytes.1)
 

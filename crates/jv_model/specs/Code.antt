@@ -2,7 +2,7 @@
 use Rattle.std.specs.Prelude.{ℕ, zero, suc, ◌+◌, List, [], ◌∷◌, Bool, true, false, ◌&&◌, not, if◌then◌else◌, ◌==◌, nat_le, Result, Ok, Err, length}
 use Rattle.jv_model.specs.Limits.{most_frame_words}
 use Rattle.jv_model.specs.Refusal.{Cause, later}
-use Rattle.jv_model.specs.Input.{Input, whole_of, ◌>>=◌, number_at, number_where, run_of, allowed, inside_run}
+use Rattle.jv_model.specs.Input.{Input, whole_of, ◌>>=◌, number_at, number_where, bytes_at, allowed, inside_run}
 use Rattle.jv_model.specs.Instruction.{Instruction, return, Placed, Body}
 
 abbrev pub return_opcode : ℕ
@@ -45,7 +45,7 @@ body_at input = do
   max_stack ← number_at 2 input
   max_locals ← number_where 2 (λ locals. nat_le 1 locals && nat_le (max_stack.0 + locals) most_frame_words) max_stack.1
   count ← number_at 4 max_locals.1
-  code ← run_of count.0 count.1
+  code ← bytes_at count.0 count.1
   handlers ← number_where 2 (λ n. n == 0) code.1
   attributes ← number_where 2 (λ n. n == 0) handlers.1
   instructions ← instructions_of code.0

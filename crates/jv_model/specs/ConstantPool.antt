@@ -3,7 +3,7 @@ use Rattle.std.specs.Prelude.{ℕ, zero, suc, ◌-◌, List, [], ◌∷◌, Bool
 use Rattle.std.specs.List.{list_all}
 use Rattle.std.specs.Int.{w32, cast_signed}
 use Rattle.jv_model.specs.Refusal.{Cause, later}
-use Rattle.jv_model.specs.Input.{Input, ◌>>=◌, number_at, run_of, allowed}
+use Rattle.jv_model.specs.Input.{Input, ◌>>=◌, number_at, bytes_at, allowed}
 
 pub data Constant : Type 0 where
   -- what stands at index 0
@@ -27,7 +27,7 @@ is_plain byte = nat_le 1 byte && nat_lt byte 128
 unfoldable pub utf8_at : Input → Result (Constant × Input) Cause
 utf8_at input = do
   count ← number_at 2 input
-  bytes ← run_of count.0 count.1
+  bytes ← bytes_at count.0 count.1
   text ← allowed (list_all is_plain bytes.0) bytes
   Ok (utf8 text.0, text.1)
 

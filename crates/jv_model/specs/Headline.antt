@@ -3,6 +3,7 @@ use Rattle.std.specs.Prelude.{◌≡◌, ℕ, List, [], ◌∷◌, Option, Some,
 use Rattle.std.specs.Option.{option_map}
 use Rattle.jv_model.specs.Refusal.{Cause}
 use Rattle.jv_model.specs.Status.{Status, bad_words, bad_input, read_fault, write_fault, no_memory}
+use Rattle.jv_model.specs.End.{End, end_status}
 use Rattle.jv_model.specs.Machine.{Program, Machine, end_of, output_of, report_of}
 use Rattle.jv_model.specs.Journal.{Entry, replay, journal_text}
 use Rattle.jv_model.specs.RoundRobin.{IsRoundRobin}
@@ -76,10 +77,16 @@ pub record IsSilent (answer : Answer) : Type 0 where
   pub shares : answer.shares ≡ []
   pub sinks : GotNoByte answer.sinks
 
+-- The run came to an end, and the status tells which.
+pub record EndsAs (machine : Machine) (status : Status) : Type 0 where
+  pub end : End
+  pub is : end_of machine ≡ Some end
+  pub told : status ≡ end_status end
+
 -- What comes of running a program.
 pub data Run (program : Program) (answer : Answer) : Type 0 where
   -- the run came to the end that the status tells, and each sink got all of its text
-  ended : (machine : Machine) → IsRunOf program machine answer → end_of machine ≡ Some answer.status
+  ended : (machine : Machine) → IsRunOf program machine answer → EndsAs machine answer.status
       → GotAll answer.sinks (texts_of machine answer.journal) → Run program answer
   -- the run came to an end, and then a sink failed
   cut : (machine : Machine) → IsRunOf program machine answer → IsSome (end_of machine) → answer.status ≡ write_fault
@@ -117,4 +124,4 @@ pub record Headline (call : Call) : Type 0 where
   pub missing : Makes call misses → (call.answer.status ≡ read_fault) ⊎ (call.answer.status ≡ no_memory)
   -- where nothing failed, a program that loads runs to its end, unless memory runs out
   pub complete : (program : Program) → Makes call (loads program) → NothingFailed call
-      → ((machine : Machine) × (replay program call.answer.journal ≡ Some machine) × (end_of machine ≡ Some call.answer.status)) ⊎ (call.answer.status ≡ no_memory)
+      → ((machine : Machine) × (replay program call.answer.journal ≡ Some machine) × EndsAs machine call.answer.status) ⊎ (call.answer.status ≡ no_memory)

@@ -23,8 +23,8 @@ abbrev pub ◌>>=◌ : {A B : Type 0} → Result A Cause → (A → Result B Cau
 (Err cause) >>= f = Err cause
 
 -- a run of so many bytes, and the input behind it
-abbrev pub run_of : ℕ → Input → Result (List ℕ × Input) Cause
-run_of count input = if nat_lt (length input.bytes) count then Err (truncated input.at) else Ok (take count input.bytes, behind count input)
+abbrev pub bytes_at : ℕ → Input → Result (List ℕ × Input) Cause
+bytes_at count input = if nat_lt (length input.bytes) count then Err (truncated input.at) else Ok (take count input.bytes, behind count input)
 
 -- a number of so many bytes, the highest first, and the input behind it
 abbrev pub number_at : ℕ → Input → Result (ℕ × Input) Cause

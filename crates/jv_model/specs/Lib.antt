@@ -1,6 +1,7 @@
 pub mod Limits
 pub mod Refusal
 pub mod Status
+pub mod End
 pub mod Lines
 pub mod Manifest
 pub mod Input

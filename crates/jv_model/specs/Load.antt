@@ -30,7 +30,8 @@ load_class manifest item (Some bytes) = program_of (main_body_of item.class mani
 
 abbrev pub load_items : Folder → Manifest → List ClassItem → Loading
 load_items folder manifest [] = refuses 0 0 later
-load_items folder manifest (item ∷ items) = load_class manifest item (folder item.file)
+load_items folder manifest (item ∷ []) = load_class manifest item (folder item.file)
+load_items folder manifest (item ∷ next ∷ others) = refuses 0 0 later
 
 abbrev pub load_manifest : Folder → Result Manifest (ℕ × LineKind) → Loading
 load_manifest folder (Ok manifest) = load_items folder manifest manifest.classes

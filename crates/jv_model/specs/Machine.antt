@@ -1,8 +1,8 @@
 -- The machine of a program (JVMS 2.5): threads of frames, what they printed, and the steps that they made.
-use Rattle.std.specs.Prelude.{ℕ, zero, suc, ◌+◌, ◌-◌, List, [], ◌∷◌, Bool, ◌==◌, if◌then◌else◌, Option, Some, None, option_and_then, length, take, slice_get, slice_set, find}
+use Rattle.std.specs.Prelude.{ℕ, zero, suc, ◌+◌, ◌-◌, List, [], ◌∷◌, Bool, ◌==◌, if◌then◌else◌, Option, Some, None, is_some, option_and_then, length, take, slice_get, slice_set, find}
 use Rattle.std.specs.List.{list_all}
 use Rattle.jv_model.specs.Instruction.{Instruction, return, Body}
-use Rattle.jv_model.specs.Status.{Status, finished}
+use Rattle.jv_model.specs.End.{End, all_ended}
 
 pub record Program : Type 0 where
   -- the code of the main class's `main([Ljava/lang/String;)V`
@@ -52,9 +52,16 @@ stepped machine t thread = record machine { threads = slice_set machine.threads 
 abbrev pub executed : Instruction → Machine → ℕ → Thread → Machine
 executed return machine t thread = stepped machine t (returned thread)
 
--- the machine after the next step of thread t, where that thread can make one
+abbrev pub has_ended : Thread → Bool
+has_ended thread = length thread.frames == 0
+
+-- how the run ended, where it has
+abbrev pub end_of : Machine → Option End
+end_of machine = if list_all has_ended machine.threads then Some all_ended else None
+
+-- the machine after the next step of thread t, where the run has no end and that thread can make one
 unfoldable pub step : ℕ → Machine → Option Machine
-step t machine = do
+step t machine = if is_some (end_of machine) then None else do
   thread ← slice_get machine.threads t
   frame ← newest thread
   placed ← find (λ i. i.pc == frame.pc) machine.program.main.instructions
@@ -64,13 +71,6 @@ step t machine = do
 unfoldable pub steps_of : ℕ → ℕ → Machine → Option Machine
 steps_of t zero machine = Some machine
 steps_of t (suc count) machine = step t machine >>= λ next. steps_of t count next
-
-abbrev pub has_ended : Thread → Bool
-has_ended thread = length thread.frames == 0
-
--- how the run ended, where it has
-abbrev pub end_of : Machine → Option Status
-end_of machine = if list_all has_ended machine.threads then Some finished else None
 
 abbrev pub output_of : Machine → List ℕ
 output_of machine = machine.output

@@ -97,8 +97,8 @@ line_fault (head ∷ before) line is_last = later_line_fault (mains_of before) (
 
 -- the fault of the line with this number, or where it has none, that of a later line
 abbrev pub fault_here_or_later : ℕ → Option LineKind → Option (ℕ × LineKind) → Option (ℕ × LineKind)
-fault_here_or_later number (Some kind) later = Some (number, kind)
-fault_here_or_later number None later = later
+fault_here_or_later number (Some kind) rest = Some (number, kind)
+fault_here_or_later number None rest = rest
 
 -- the first line at which something is wrong, behind those lines before it: its number from 1, and what
 abbrev pub first_fault : List Line → List Line → Option (ℕ × LineKind)

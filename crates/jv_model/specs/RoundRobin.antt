@@ -1,8 +1,8 @@
 -- The order in which `run` lets threads go: each in its turn, for a slice of steps.
-use Rattle.std.specs.Prelude.{◌≡◌, ℕ, ◌+◌, ◌≤◌, List, [], ◌∷◌, ◌++◌, Option, Some, IfSome, IsTrue, length, take, drop, find, IsSome}
+use Rattle.std.specs.Prelude.{◌≡◌, ℕ, ◌+◌, ◌≤◌, List, [], ◌∷◌, ◌++◌, Option, Some, IfSome, IsTrue, IsFalse, length, take, drop, find}
 use Rattle.std.specs.List.{range_with_len}
-use Rattle.jv_model.specs.Machine.{Program, Machine, start, end_of}
-use Rattle.jv_model.specs.Journal.{Entry, run, attempt, made, is_legal, replay}
+use Rattle.jv_model.specs.Machine.{Program, Machine, start}
+use Rattle.jv_model.specs.Journal.{Entry, run, attempt, made, is_legal}
 
 abbrev pub most_slice_steps : ℕ
 most_slice_steps = 64
@@ -21,13 +21,16 @@ pub record IsSlice (machine : Machine) (t count : ℕ) : Type 0 where
   pub within : count ≤ most_slice_steps
   pub greatest : (more : ℕ) → more ≤ most_slice_steps → IsTrue (is_legal (run t more) machine) → more ≤ count
 
--- Each entry is the slice of the thread whose turn it is; the turn behind it is that of the next number.
+-- An update is tried where that is legal. Else the entry is the slice of the thread whose turn it is, and the turn behind it is that of the
+-- next number.
 abbrev pub TakesTurns : ℕ → Machine → List Entry → Type 0
 TakesTurns cursor machine [] = Unit {0}
+TakesTurns cursor machine (attempt ∷ entries) =
+    IsTrue (is_legal attempt machine) × IfSome (made attempt machine) (λ next. TakesTurns cursor next entries)
 TakesTurns cursor machine (run t count ∷ entries) =
-    (next_thread cursor machine ≡ Some t) × IsSlice machine t count × IfSome (made (run t count) machine) (λ next. TakesTurns (t + 1) next entries)
-TakesTurns cursor machine (attempt ∷ entries) = ⊥
+    IsFalse (is_legal attempt machine) × (next_thread cursor machine ≡ Some t) × IsSlice machine t count
+    × IfSome (made (run t count) machine) (λ next. TakesTurns (t + 1) next entries)
 
--- a front of the program's round-robin journal
+-- a front of the program's round-robin journal, which is all of it where it leads to the run's end
 abbrev pub IsRoundRobin : Program → List Entry → Type 0
 IsRoundRobin program entries = TakesTurns 0 (start program) entries

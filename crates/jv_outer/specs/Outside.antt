@@ -4,10 +4,11 @@ use Rattle.jv_model.specs.Load.{Folder}
 use Rattle.jv_model.specs.Faults.{Rose}
 use Rattle.jv_model.specs.Delivery.{followed_by}
 
--- The count of faults doesn't fall, and this error comes only where it rose.
+-- The count of faults doesn't fall, this error comes only where it rose, and it stays where this error doesn't come.
 pub record HasCause {T E : Type 0} (failure : E) (before now : ℕ) (result : Result T E) : Type 0 where
   pub later : before ≤ now
   pub failed : IsErrOf result failure → Rose before now
+  pub still : (IsErrOf result failure → ⊥) → now ≡ before
 
 -- These are the bytes of the file of that name, or the first limit + 1 of them, where the files are told.
 abbrev pub IsReadOf : Option Folder → List ℕ → ℕ → List ℕ → Type 0

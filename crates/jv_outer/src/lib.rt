@@ -4,8 +4,8 @@
 //! traits. `Files::read` gives the named file, or its first bytes where it is longer than a limit.
 //! `Sink::write` takes a first part of what it's given, and at least a byte where it is given any.
 //! Both answer `Failed` only where their count of faults rose, or stands at the highest number that
-//! it has, 2^64 - 1. Code above can't raise a count by itself, so it can't blame a fault that didn't
-//! come.
+//! it has, 2^64 - 1; a call that didn't fail leaves the count where it was. Code above raises a count
+//! only by a call that fails, such as a read of a name that isn't there.
 //! `MemFiles` and `MemSink` fail exactly where they're told to; the real parts are a few lines each,
 //! and what a real file or terminal holds is told by no clause.
 #![tactic(auto)]

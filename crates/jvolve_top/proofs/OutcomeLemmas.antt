@@ -8,12 +8,13 @@ use Rattle.jv_types.specs.declared.status.Status.TheVariants.{Finished, WriteFau
 use Rattle.jv_types.specs.Entry.{entries_of}
 use Rattle.jv_model.specs.Refusal.{Cause}
 use Rattle.jv_model.specs.Status.{Status, finished, bad_words, bad_input, read_fault, write_fault, no_memory}
-use Rattle.jv_model.specs.Machine.{Program, Machine, end_of, has_ended}
+use Rattle.jv_model.specs.End.{End, all_ended, end_status}
+use Rattle.jv_model.specs.Machine.{Program, Machine}
 use Rattle.jv_model.specs.Journal.{replay}
 use Rattle.jv_model.specs.Invocation.{Invocation, invocation_of}
 use Rattle.jv_model.specs.Load.{Folder, Loading, loads, refuses, misses, load}
 use Rattle.jv_model.specs.Delivery.{Sinks, Texts, GotAll, GotInOrder, OneFailed}
-use Rattle.jv_model.specs.Headline.{Call, Makes, MakesIfTold, loading_of, NothingFailed, texts_of, IsRunOf, Run, ended, cut, starved, Outcome, ran, starved_early, Headline}
+use Rattle.jv_model.specs.Headline.{EndsAs, Call, Makes, MakesIfTold, loading_of, NothingFailed, texts_of, IsRunOf, Run, ended, cut, starved, Outcome, ran, starved_early, Headline}
 use Rattle.jvolve_top.specs.declared.call.Done.{Done}
 use Rattle.jvolve_top.specs.declared.call.Made.{Made}
 use Rattle.jvolve_top.specs.Sinks.{texts_view}
@@ -41,7 +42,7 @@ module _ (program : Program) (made : Made) (is : IsMade program made) (sinks : S
 
   pub one_failed : GotInOrder sinks (texts_view made.texts) → OneFailed sinks (texts_view made.texts) → RunsOrStarves program (answer (done made WriteFault) sinks)
   one_failed order failed =
-      inl (cut is.ran.machine (run_of WriteFault order) (subst IsSome (sym is.ran.ended) refl) refl (subst (OneFailed sinks) same_texts failed))
+      inl (cut is.ran.machine (run_of WriteFault order) (subst IsSome (sym is.ran.ended.is) refl) refl (subst (OneFailed sinks) same_texts failed))
 
   pub no_memory_left : GotInOrder sinks (texts_view made.texts) → RunsOrStarves program (answer (done made NoMemory) sinks)
   no_memory_left order = inl (starved is.ran.machine (run_of NoMemory order) refl)
@@ -61,11 +62,11 @@ made_once words told folder one other if_told is makes =
 same_made : (call : Call) (one other : Loading) → MakesIfTold call one → Makes call other → one ≡ other
 same_made call one other if_told makes = made_once call.words call.folder makes.0 one other if_told makes.1 makes.2
 
-ended-finished : (machine : Machine) (status : Status) → end_of machine ≡ Some status → status ≡ finished
-ended-finished machine status is = by_cases (list_all has_ended machine.threads) is where
-  by_cases : (b : Bool) → cond b (Some finished) None ≡ Some status → status ≡ finished
-  by_cases true is = sym (same_some is)
-  by_cases false is = absurd cc
+end_status-finished : (end : End) → end_status end ≡ finished
+end_status-finished all_ended = refl
+
+ends_as-finished : (machine : Machine) (status : Status) → EndsAs machine status → status ≡ finished
+ends_as-finished machine status ends = ends.told ∙ end_status-finished ends.end
 
 -- a status that tells of no refusal
 record RefusesNothing (status : Status) : Type 0 where
@@ -89,7 +90,7 @@ failed_sink call texts (inr (inr trace)) nothing = nothing.trace trace.2.1
 module _ (call : Call) (program : Program) (invocation : Invocation) (asked : invocation_of call.words ≡ Some invocation) (makes : MakesIfTold call (loads program)) where
   headline_of : Outcome call → RefusesNothing call.answer.status
       → ((other : Program) → Makes call (loads other) → NothingFailed call
-      → ((machine : Machine) × (replay other call.answer.journal ≡ Some machine) × (end_of machine ≡ Some call.answer.status)) ⊎ (call.answer.status ≡ no_memory))
+      → ((machine : Machine) × (replay other call.answer.journal ≡ Some machine) × EndsAs machine call.answer.status) ⊎ (call.answer.status ≡ no_memory))
       → Headline call
   headline_of outcome nothing complete = record {
     outcome = outcome;
@@ -106,7 +107,7 @@ module _ (call : Call) (program : Program) (invocation : Invocation) (asked : in
 
   headline_run : Run program call.answer → Headline call
   headline_run (ended machine run end all) =
-      headline_of (ran program makes (ended machine run end all)) (refuses_nothing call.answer.status (inl (ended-finished machine call.answer.status end)))
+      headline_of (ran program makes (ended machine run end all)) (refuses_nothing call.answer.status (inl (ends_as-finished machine call.answer.status end)))
       (λ other made nothing. inl (machine, ap (λ p. replay p call.answer.journal) (sym (program_is other made)) ∙ run.replayed, end))
   headline_run (cut machine run has_end status failed) =
       headline_of (ran program makes (cut machine run has_end status failed)) (refuses_nothing call.answer.status (inr (inl status)))

@@ -1,6 +1,7 @@
 -- The run of a program that is one `return`.
 use Rattle.std.proofs.Common.{◌≡◌, ℕ, zero, suc, ◌≤◌, true, false, cond, leb, ◌&&◌, [], ◌∷◌, Some, None, is_some, refl, sym, ap, subst, ◌∙◌, arith}
 use Rattle.std.specs.Prelude.{IfSome, IsTrue}
+use Rattle.jv_model.specs.End.{all_ended}
 use Rattle.jv_model.specs.Machine.{Program, Machine, start, step, steps_of, ◌>>=◌}
 use Rattle.jv_model.specs.Journal.{run, made, is_legal, replayed}
 use Rattle.jv_model.specs.RoundRobin.{next_thread, IsSlice, TakesTurns, IsRoundRobin}
@@ -49,13 +50,14 @@ module _ (program : Program) (straight : IsStraight program.main) where
   first_turn = rw legal refl
 
   in_turns : IsRoundRobin program (run 0 1 ∷ [])
-  in_turns = (first_turn, whole_slice, subst (λ o. IfSome o (λ next. TakesTurns 1 next [])) (sym one_step) tt)
+  unfolding made
+  in_turns = (refl, first_turn, whole_slice, subst (λ o. IfSome o (λ next. TakesTurns 1 next [])) (sym one_step) tt)
 
   pub one_return_runs : RanToEnd program (run 0 1 ∷ []) []
   one_return_runs = record {
     machine = ended program;
     in_turns = in_turns;
     replayed = ap (λ o. o >>= λ next. replayed [] next) one_step;
-    ended = refl;
+    ended = record { end = all_ended; is = refl; told = refl };
     printed = refl;
   }

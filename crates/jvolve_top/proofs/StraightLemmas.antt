@@ -3,7 +3,7 @@ use Rattle.std.proofs.Common.{◌≡◌, ℕ, suc, zero, ◌+◌, Bool, true, fa
 use Rattle.std.proofs.lemmas.Bool.{and_parts, cases_Bool}
 use Rattle.jv_model.specs.Limits.{most_file_bytes, most_frame_words}
 use Rattle.jv_model.specs.Refusal.{Cause}
-use Rattle.jv_model.specs.Input.{Input, whole_of, ◌>>=◌, number_at, number_where, run_of, allowed, inside_run}
+use Rattle.jv_model.specs.Input.{Input, whole_of, ◌>>=◌, number_at, number_where, bytes_at, allowed, inside_run}
 use Rattle.jv_model.specs.ConstantPool.{Constant, pool_at}
 use Rattle.jv_model.specs.Instruction.{Instruction, return, Placed, Body}
 use Rattle.jv_model.specs.Code.{instruction_of, placed_at, instructions_at, instructions_of, ends_with_its_return, body_at, body_of}
@@ -95,7 +95,7 @@ abbrev body_then4 : ℕ → ℕ → List ℕ × Input → Result Body Cause
 body_then4 max_stack max_locals code = number_where 2 (λ n. eqb n 0) code.1 >>= body_then5 max_stack max_locals code.0
 
 abbrev body_then3 : ℕ → ℕ → ℕ × Input → Result Body Cause
-body_then3 max_stack max_locals count = run_of count.0 count.1 >>= body_then4 max_stack max_locals
+body_then3 max_stack max_locals count = bytes_at count.0 count.1 >>= body_then4 max_stack max_locals
 
 abbrev body_then2 : ℕ → ℕ × Input → Result Body Cause
 body_then2 max_stack max_locals = number_at 4 max_locals.1 >>= body_then3 max_stack max_locals.0
@@ -109,7 +109,7 @@ straight_body input body is =
     let max_stack = went (number_at 2 input) body_then1 body is in
     let max_locals = went (number_where 2 (λ locals. leb 1 locals && leb (max_stack.value.0 + locals) most_frame_words) max_stack.value.1) (body_then2 max_stack.value.0) body max_stack.rest in
     let count = went (number_at 4 max_locals.value.1) (body_then3 max_stack.value.0 max_locals.value.0) body max_locals.rest in
-    let code = went (run_of count.value.0 count.value.1) (body_then4 max_stack.value.0 max_locals.value.0) body count.rest in
+    let code = went (bytes_at count.value.0 count.value.1) (body_then4 max_stack.value.0 max_locals.value.0) body count.rest in
     let handlers = went (number_where 2 (λ n. eqb n 0) code.value.1) (body_then5 max_stack.value.0 max_locals.value.0 code.value.0) body code.rest in
     let attributes = went (number_where 2 (λ n. eqb n 0) handlers.value.1) (body_then6 max_stack.value.0 max_locals.value.0 code.value.0) body handlers.rest in
     let instructions = went (instructions_of code.value.0) (body_then7 max_stack.value.0 max_locals.value.0 attributes.value) body attributes.rest in
@@ -126,14 +126,14 @@ abbrev code_then2 : List ℕ × Input → Result (Body × Input) Cause
 code_then2 bytes = body_of bytes.0 >>= code_then3 bytes
 
 abbrev code_then1 : ℕ × Input → Result (Body × Input) Cause
-code_then1 count = run_of count.0 count.1 >>= code_then2
+code_then1 count = bytes_at count.0 count.1 >>= code_then2
 
 straight_code : (pool : List Constant) (input : Input) (code : Body × Input) → code_attribute_at pool input ≡ Ok code → IsStraight code.0
 unfolding code_attribute_at
 straight_code pool input code is =
     let name = went (number_where 2 (has_text pool (codes "Code")) input) (λ name. number_at 4 name.1 >>= code_then1) code is in
     let count = went (number_at 4 name.value.1) code_then1 code name.rest in
-    let bytes = went (run_of count.value.0 count.value.1) code_then2 code count.rest in
+    let bytes = went (bytes_at count.value.0 count.value.1) code_then2 code count.rest in
     let body = went (body_of bytes.value.0) (code_then3 bytes.value) code bytes.rest in
     let made : body.value ≡ code.0 = ap (λ (p : Body × Input). p.0) (ok_is (body.value, bytes.value.1) code body.rest) in
     subst IsStraight made (straight_body (whole_of bytes.value.0) body.value (inside-ok (body_at (whole_of bytes.value.0)) body.value body.is))

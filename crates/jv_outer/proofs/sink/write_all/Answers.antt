@@ -1,4 +1,4 @@
-use Rattle.std.proofs.Common.{arith, ◌≡◌, take, drop}
+use Rattle.std.proofs.Common.{arith, ◌∙◌, ◌≡◌, take, drop}
 use Rattle.jv_model.specs.Delivery.{followed_by}
 use Rattle.jv_outer.proofs.Pieces.{one_more}
 use Rattle.jv_outer.proofs.sink.write_all.Goals as goal
@@ -12,5 +12,5 @@ loop-written-preserved g c =
       within = omega (arith, c.in_ok-written.ensures.part, c.split_at.ensures.back_len);
       got = one_more (sink.bytes c.args.sink.now) (sink.bytes c.loop-written.sink) (sink.bytes c.write.new.self) c.args.text.now c.loop-written.written c.in_ok-written.field-0
           c.loop-written.invariant.got taken;
-      later = omega (arith, c.in_ok-written.ensures.cause.later, c.loop-written.invariant.later);
+      still = c.in_ok-written.ensures.cause.still (λ failed. absurd cc) ∙ c.loop-written.invariant.still;
     }

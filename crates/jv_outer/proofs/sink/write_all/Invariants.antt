@@ -7,7 +7,7 @@ abbrev pub invariant-loop-written : goal.invariant-loop-written
 invariant-loop-written g l = let sink = g.S.Sink in record {
   within : l.written ≤ length l.text;
   got : sink.bytes l.sink ≡ followed_by (sink.bytes l.fn.sink) (take l.written l.text);
-  later : sink.faults l.fn.sink ≤ sink.faults l.sink;
+  still : sink.faults l.sink ≡ sink.faults l.fn.sink;
 }
 
 abbrev pub decreases-loop-written : goal.decreases-loop-written
