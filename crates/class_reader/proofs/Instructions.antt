@@ -5,6 +5,7 @@ use Rattle.std.proofs.lemmas.Bool.Decides.{nat_tests}
 use Rattle.class_reader.specs.declared.error.ClassError.{ClassError}
 use Rattle.jv_model.specs.Refusal.{Cause}
 use Rattle.jv_model.specs.Input.{Input, ◌>>=◌}
+use Rattle.jv_model.specs.ConstantPool.{Constant}
 use Rattle.jv_model.specs.Instruction.{Placed}
 use Rattle.jv_model.specs.Code.{placed_at, instructions_at}
 use Rattle.class_reader.specs.Gives.{Fails}
@@ -22,29 +23,29 @@ regroup : (front : List Placed) (placed : Placed) (read : Result (List Placed) C
 regroup front placed (Ok others) = ap (λ (instructions : List Placed). Ok instructions) (simp append_assoc)
 regroup front placed (Err cause) = refl
 
-pub goes_on : (front : List Placed) (bound count : ℕ) (input : Input) (placed : Placed) (rest : Input) (whole : Result (List Placed) Cause)
-    → eqb (length input.bytes) 0 ≡ false → length input.bytes + count ≤ bound → placed_at input ≡ Ok (placed, rest)
-    → with_front front (instructions_at (bound - count) input) ≡ whole → with_front (front ++ placed ∷ []) (instructions_at (bound - (count + 1)) rest) ≡ whole
+pub goes_on : (pool : List Constant) (front : List Placed) (bound count : ℕ) (input : Input) (placed : Placed) (rest : Input) (whole : Result (List Placed) Cause)
+    → eqb (length input.bytes) 0 ≡ false → length input.bytes + count ≤ bound → placed_at pool input ≡ Ok (placed, rest)
+    → with_front front (instructions_at pool (bound - count) input) ≡ whole → with_front (front ++ placed ∷ []) (instructions_at pool (bound - (count + 1)) rest) ≡ whole
 unfolding instructions_at
-goes_on front bound count input placed rest whole some room first so_far =
-    let one : with_front front (instructions_at (bound - count) input) ≡ with_front (front ++ placed ∷ []) (instructions_at (bound - (count + 1)) rest) =
-    rw (bound_left bound count (length input.bytes) some room, some, first) (regroup front placed (instructions_at (bound - (count + 1)) rest)) in
+goes_on pool front bound count input placed rest whole some room first so_far =
+    let one : with_front front (instructions_at pool (bound - count) input) ≡ with_front (front ++ placed ∷ []) (instructions_at pool (bound - (count + 1)) rest) =
+    rw (bound_left bound count (length input.bytes) some room, some, first) (regroup front placed (instructions_at pool (bound - (count + 1)) rest)) in
     sym one ∙ so_far
 
-pub fails : (error : ClassError) (front : List Placed) (bound count : ℕ) (input : Input) (whole : Result (List Placed) Cause)
-    → eqb (length input.bytes) 0 ≡ false → length input.bytes + count ≤ bound → Fails error (placed_at input)
-    → with_front front (instructions_at (bound - count) input) ≡ whole → Fails error whole
+pub fails : (error : ClassError) (pool : List Constant) (front : List Placed) (bound count : ℕ) (input : Input) (whole : Result (List Placed) Cause)
+    → eqb (length input.bytes) 0 ≡ false → length input.bytes + count ≤ bound → Fails error (placed_at pool input)
+    → with_front front (instructions_at pool (bound - count) input) ≡ whole → Fails error whole
 unfolding instructions_at
-fails error front bound count input whole some room first so_far =
-    subst (Fails error) so_far (rw (bound_left bound count (length input.bytes) some room, some) (Fails-first error _ _ (Fails-first error (placed_at input) _ first)))
+fails error pool front bound count input whole some room first so_far =
+    subst (Fails error) so_far (rw (bound_left bound count (length input.bytes) some room, some) (Fails-first error _ _ (Fails-first error (placed_at pool input) _ first)))
 
-at_the_end : (bound : ℕ) (input : Input) → eqb (length input.bytes) 0 ≡ true → instructions_at bound input ≡ Ok []
+at_the_end : (pool : List Constant) (bound : ℕ) (input : Input) → eqb (length input.bytes) 0 ≡ true → instructions_at pool bound input ≡ Ok []
 unfolding instructions_at
-at_the_end zero input none = rw none refl
-at_the_end (suc bound) input none = rw none refl
+at_the_end pool zero input none = rw none refl
+at_the_end pool (suc bound) input none = rw none refl
 
-pub is_done : (front : List Placed) (bound : ℕ) (input : Input) (whole : Result (List Placed) Cause)
-    → eqb (length input.bytes) 0 ≡ true → with_front front (instructions_at bound input) ≡ whole → whole ≡ Ok front
-is_done front bound input whole none so_far =
-    let one : with_front front (instructions_at bound input) ≡ Ok front = rw (at_the_end bound input none) (ap (λ (instructions : List Placed). Ok instructions) (append-nil front)) in
+pub is_done : (pool : List Constant) (front : List Placed) (bound : ℕ) (input : Input) (whole : Result (List Placed) Cause)
+    → eqb (length input.bytes) 0 ≡ true → with_front front (instructions_at pool bound input) ≡ whole → whole ≡ Ok front
+is_done pool front bound input whole none so_far =
+    let one : with_front front (instructions_at pool bound input) ≡ Ok front = rw (at_the_end pool bound input none) (ap (λ (instructions : List Placed). Ok instructions) (append-nil front)) in
     sym so_far ∙ one

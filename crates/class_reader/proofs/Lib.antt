@@ -1,4 +1,4 @@
 pub mod Failing
 pub mod Constants
 pub mod Instructions
-pub mod Returns
+pub mod Places

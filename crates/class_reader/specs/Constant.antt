@@ -1,7 +1,8 @@
--- Which entry of the definitions a `Constant` is.
+-- Which entry of the definitions a `Constant` is, and which member a `Member`.
 use Rattle.std.specs.Prelude.{List, ◌++◌, Result, Ok}
 use Rattle.class_reader.specs.declared.pool.Constant.{Constant}
 use Rattle.class_reader.specs.declared.pool.Constant.TheVariants.{Gap, Utf8, Integer, Class, Fieldref, Methodref, NameAndType}
+use Rattle.class_reader.specs.declared.pool.Member.{Member}
 use Rattle.jv_model.specs.Refusal.{Cause}
 use Rattle.jv_model.specs.Input.{Input, ◌>>=◌}
 use Rattle.jv_model.specs.ConstantPool as model
@@ -14,6 +15,9 @@ constant_of (Class name) = model.class_ref name
 constant_of (Fieldref class name_and_type) = model.field_ref class name_and_type
 constant_of (Methodref class name_and_type) = model.method_ref class name_and_type
 constant_of (NameAndType name descriptor) = model.name_and_type name descriptor
+
+abbrev pub member_of : Member → model.Member
+member_of member = record { class = member.class.now; name = member.name.now; descriptor = member.descriptor.now }
 
 -- these entries, and those that are read behind them
 abbrev pub with_front : List model.Constant → Result (List model.Constant × Input) Cause → Result (List model.Constant × Input) Cause

@@ -1,10 +1,23 @@
 //! What is read of a class file: the code of a method.
 
-use jv_types::List;
+use jv_types::{IntOperation, List};
 
 /// An instruction of a method (JVMS 6.5).
 #[derive(Clone, Copy, Debug, PartialEq, Eq)]
 pub enum Instruction {
+    /// `iconst_<i>`, `bipush`, `sipush`, and `ldc` and `ldc_w` of an Integer: pushes this int.
+    Constant(i32),
+    /// `iadd`, `isub`, `imul`, `iand`, `ior`, `ixor`: pops value2 and value1, and pushes the result.
+    Arithmetic(IntOperation),
+    /// `ineg`: pops an int, and pushes its negation.
+    Negate,
+    /// `pop`: drops the top operand.
+    Pop,
+    /// `getstatic` of `java/lang/System.out`: pushes the PrintStream.
+    GetOut,
+    /// `invokevirtual` of `java/io/PrintStream.println (I)V`: pops an int and the PrintStream, and
+    /// prints the int as a line.
+    PrintLine,
     /// `return`: ends the method, without a value.
     Return,
 }
@@ -14,6 +27,8 @@ pub enum Instruction {
 pub struct Placed {
     /// The index in the code array, in bytes, at which the instruction begins.
     pub pc: u32,
+    /// The index behind its last byte.
+    pub next: u32,
     /// The instruction.
     pub instruction: Instruction,
 }

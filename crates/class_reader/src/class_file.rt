@@ -1,8 +1,7 @@
 //! A class file (JVMS 4.1) of one class with one method, its main.
 
-ghost use Rattle.std.specs.Prelude.{◌≡◌};
-ghost use Rattle.std.specs.Option.{option_copied};
-ghost use Rattle.jv_model.specs.ConstantPool.{is_text};
+ghost use Rattle.std.specs.Prelude.{◌≡◌, IfOk};
+ghost use Rattle.jv_model.specs.StraightLine.{IsStraightLine};
 ghost use Rattle.jv_model.specs.ClassFile.{version_at, begins_with, is_reserved, is_wanted, class_head_at, has_text, method_head_at, code_attribute_at, main_body_of};
 ghost use Rattle.class_reader.specs.Body.{body_of};
 ghost use Rattle.class_reader.specs.Gives.{Gives};
@@ -11,7 +10,7 @@ use crate::body::Body;
 use crate::code::read_body;
 use crate::error::ClassError;
 use crate::input::Input;
-use crate::pool::Pool;
+use crate::pool::{Pool, is_text};
 use std::alloc::Global;
 
 /// The most bytes that a class file has.
@@ -37,16 +36,6 @@ fn read_version(input: &mut Input) -> Result<(), ClassError>
         return Err(ClassError::Later);
     }
     Ok(())
-}
-
-/// Whether a text is there and is this one.
-fn is_text(found: Option<&[u8]>, wanted: &[u8]) -> bool
-    ensures { result ≡ is_text (option_copied found.entry) wanted.now }
-{
-    match found {
-        Some(text) => text == wanted,
-        None => false,
-    }
 }
 
 fn begins_with(front: &[u8], name: &[u8]) -> bool
@@ -122,8 +111,9 @@ fn read_method_head(pool: &Pool, input: &mut Input) -> Result<(), ClassError>
 /// Reads the method's attribute, which is its code (JVMS 4.7).
 #[tactic(auto, unfolding(jv_model::specs::ClassFile::code_attribute_at))]
 fn read_code_attribute(alloc: Global, pool: &Pool, input: &mut Input) -> Result<Body, ClassError>
-    ensures { Gives (λ body. (body_of body, input.new)) result
+    ensures code { Gives (λ body. (body_of body, input.new)) result
         (code_attribute_at pool.now input.old) }
+    ensures straight { IfOk result (λ body. IsStraightLine (body_of body)) }
 {
     let name = input.u2()?;
     if !has_text(pool, b"Code", name) {
@@ -131,7 +121,7 @@ fn read_code_attribute(alloc: Global, pool: &Pool, input: &mut Input) -> Result<
     }
     let count = input.u4()?;
     let bytes = input.run(count)?;
-    read_body(alloc, bytes)
+    read_body(alloc, pool, bytes)
 }
 
 /// The code of the main method in the bytes of a class file, of at most 1,048,576 bytes (JVMS 4.1).
@@ -143,7 +133,10 @@ fn read_code_attribute(alloc: Global, pool: &Pool, input: &mut Input) -> Result<
 /// as a second class, a field or a second method. A longer file has such a form as a whole.
 #[tactic(auto, unfolding(jv_model::specs::ClassFile::main_body_of))]
 pub fn read_main(alloc: Global, bytes: &[u8], class: &str, main: &str) -> Result<Body, ClassError>
-    ensures { Gives body_of result (main_body_of class.now main.now bytes.now) }
+    ensures body { Gives body_of result (main_body_of class.now main.now bytes.now) }
+
+    // What is read is the one kind of code that it may be, so that who runs it needs no look of its own.
+    ensures straight { IfOk result (λ body. IsStraightLine (body_of body)) }
 {
     if bytes.len() > MOST_FILE_BYTES {
         return Err(ClassError::Later);

@@ -4,6 +4,7 @@ ghost use Rattle.std.specs.Prelude.{◌≡◌, ◌≤◌, ◌+◌, ◌==◌, len
 ghost use Rattle.jv_model.specs.Limits.{most_file_bytes};
 ghost use Rattle.jv_model.specs.Input.{whole_of, number_at, number_where, bytes_at};
 ghost use Rattle.class_reader.specs.Gives.{Gives};
+ghost use Rattle.class_reader.specs.Input.{IsFurther};
 
 use crate::error::ClassError;
 use byteorder::{BigEndian, ByteOrder};
@@ -58,6 +59,7 @@ impl<'a> Input<'a> {
         ensures run { Gives (λ run. (run.now, self.new)) result (bytes_at count self.old) }
         ensures short { IfOk result (λ run. length run.now ≤ most_file_bytes) }
         ensures left { OnOk result (length self.new.bytes + count ≡ length self.old.bytes) }
+        ensures at { OnOk result (self.new.at ≡ self.old.at + count) }
     {
         let Some((run, rest)) = self.bytes.split_at_checked(count as usize) else {
             return Err(ClassError::Truncated { at: self.at });
@@ -70,7 +72,7 @@ impl<'a> Input<'a> {
     /// The next number of one byte, a `u1`.
     pub fn u1(&mut self) -> Result<u8, ClassError>
         ensures number { Gives (λ number. (number, self.new)) result (number_at 1 self.old) }
-        ensures left { OnOk result (length self.new.bytes + 1 ≡ length self.old.bytes) }
+        ensures further { OnOk result (IsFurther self.old self.new) }
     {
         let bytes = self.run(1)?;
         Ok(bytes[0])
@@ -78,7 +80,8 @@ impl<'a> Input<'a> {
 
     /// The next number of two bytes, a `u2`.
     pub fn u2(&mut self) -> Result<u16, ClassError>
-        ensures { Gives (λ number. (number, self.new)) result (number_at 2 self.old) }
+        ensures number { Gives (λ number. (number, self.new)) result (number_at 2 self.old) }
+        ensures further { OnOk result (IsFurther self.old self.new) }
     {
         let bytes = self.run(2)?;
         Ok(BigEndian::read_u16(bytes))

@@ -11,6 +11,8 @@ mod class_file;
 mod code;
 mod error;
 mod input;
+mod instruction;
+mod operands;
 mod pool;
 
 pub use body::{Body, Instruction, Placed};

@@ -3,8 +3,8 @@
 ghost use Rattle.std.specs.Prelude.{◌≡◌, ◌-◌, ◌∷◌, [], map};
 ghost use Rattle.std.specs.List.{list_all};
 ghost use Rattle.std.specs.Option.{option_copied};
-ghost use Rattle.jv_model.specs.ConstantPool.{gap, is_plain, utf8_at, constant_at, constants_at, pool_at, entry_at, text_at, class_name_at, names_right, is_utf8_entry, is_class_entry, is_name_and_type_entry};
-ghost use Rattle.class_reader.specs.Constant.{constant_of, with_front};
+ghost use Rattle.jv_model.specs.ConstantPool.{gap, is_plain, utf8_at, constant_at, constants_at, pool_at, entry_at, text_at, class_name_at, integer_at_index, is_text, has_name_and_type, is_member, names_field, names_method, names_right, is_utf8_entry, is_class_entry, is_name_and_type_entry};
+ghost use Rattle.class_reader.specs.Constant.{constant_of, member_of, with_front};
 ghost use Rattle.class_reader.specs.Gives.{Gives};
 
 use crate::error::ClassError;
@@ -30,6 +30,24 @@ enum Constant<'a> {
     Methodref { class: u16, name_and_type: u16 },
     /// JVMS 4.4.6.
     NameAndType { name: u16, descriptor: u16 },
+}
+
+/// A field or a method, by its class, its name and its descriptor.
+#[derive(Clone, Copy)]
+pub struct Member<'a> {
+    pub class: &'a [u8],
+    pub name: &'a [u8],
+    pub descriptor: &'a [u8],
+}
+
+/// Whether a text is there and is this one.
+pub fn is_text(found: Option<&[u8]>, wanted: &[u8]) -> bool
+    ensures { result ≡ is_text (option_copied found.entry) wanted.now }
+{
+    match found {
+        Some(text) => text == wanted,
+        None => false,
+    }
 }
 
 /// Whether each byte stands for a character by itself, which has a code from 1 to 127.
@@ -154,6 +172,62 @@ impl<'a> Pool<'a> {
         match self.entry(index) {
             Constant::Class { name } => self.text(name),
             _ => None,
+        }
+    }
+
+    /// The value at an index, where an Integer entry is there.
+    pub fn integer(&self, index: u16) -> Option<i32>
+        ensures { result ≡ integer_at_index self.now index }
+    {
+        match self.entry(index) {
+            Constant::Integer(value) => Some(value),
+            _ => None,
+        }
+    }
+
+    fn has_name_and_type(&self, member: &Member, index: u16) -> bool
+        ensures { result ≡ has_name_and_type self.now (member_of member.now) (entry_at self.now index) }
+    {
+        match self.entry(index) {
+            Constant::NameAndType { name, descriptor } => {
+                is_text(self.text(name), member.name)
+                    && is_text(self.text(descriptor), member.descriptor)
+            }
+            _ => false,
+        }
+    }
+
+    /// Whether the entries at these indices, a Class and a NameAndType, are those of the member.
+    fn is_member(&self, member: &Member, class: u16, name_and_type: u16) -> bool
+        ensures { result ≡ is_member self.now (member_of member.now) class name_and_type }
+    {
+        is_text(self.class_name(class), member.class)
+            && self.has_name_and_type(member, name_and_type)
+    }
+
+    /// Whether the entry at an index is a Fieldref of the member.
+    pub fn names_field(&self, member: &Member, index: u16) -> bool
+        ensures { result ≡ names_field self.now (member_of member.now) index }
+    {
+        match self.entry(index) {
+            Constant::Fieldref {
+                class,
+                name_and_type,
+            } => self.is_member(member, class, name_and_type),
+            _ => false,
+        }
+    }
+
+    /// Whether the entry at an index is a Methodref of the member.
+    pub fn names_method(&self, member: &Member, index: u16) -> bool
+        ensures { result ≡ names_method self.now (member_of member.now) index }
+    {
+        match self.entry(index) {
+            Constant::Methodref {
+                class,
+                name_and_type,
+            } => self.is_member(member, class, name_and_type),
+            _ => false,
         }
     }
 

@@ -55,7 +55,7 @@ code_attribute_at pool input = do
   name ← number_where 2 (has_text pool (codes "Code")) input
   count ← number_at 4 name.1
   bytes ← bytes_at count.0 count.1
-  body ← body_of bytes.0
+  body ← body_of pool bytes.0
   Ok (body, bytes.1)
 
 -- The code of the main method in a class file that holds the class, where main is the main class: or else the first item that isn't whole

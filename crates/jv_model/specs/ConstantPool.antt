@@ -92,10 +92,47 @@ name_in pool other = None
 abbrev pub class_name_at : List Constant → ℕ → Option (List ℕ)
 class_name_at pool index = name_in pool (entry_at pool index)
 
+abbrev pub integer_in : Constant → Option ℤ
+integer_in (integer value) = Some value
+integer_in other = None
+
+-- the value at an index, where an Integer entry is there
+abbrev pub integer_at_index : List Constant → ℕ → Option ℤ
+integer_at_index pool index = integer_in (entry_at pool index)
+
 -- a text that is there and is this one
 abbrev pub is_text : Option (List ℕ) → List ℕ → Bool
 is_text None wanted = false
 is_text (Some text) wanted = bytes_eq text wanted
+
+-- What a Fieldref or a Methodref names: a member of a class.
+pub record Member : Type 0 where
+  pub class : List ℕ
+  pub name : List ℕ
+  pub descriptor : List ℕ
+
+abbrev pub has_name_and_type : List Constant → Member → Constant → Bool
+has_name_and_type pool member (name_and_type name descriptor) = is_text (text_at pool name) member.name && is_text (text_at pool descriptor) member.descriptor
+has_name_and_type pool member other = false
+
+-- the entries at these indices, a Class and a NameAndType, are those of the member
+abbrev pub is_member : List Constant → Member → ℕ → ℕ → Bool
+is_member pool member class pair = is_text (class_name_at pool class) member.class && has_name_and_type pool member (entry_at pool pair)
+
+abbrev pub is_field_entry : List Constant → Member → Constant → Bool
+is_field_entry pool member (field_ref class pair) = is_member pool member class pair
+is_field_entry pool member other = false
+
+abbrev pub is_method_entry : List Constant → Member → Constant → Bool
+is_method_entry pool member (method_ref class pair) = is_member pool member class pair
+is_method_entry pool member other = false
+
+-- the entry at an index is a Fieldref, or a Methodref, of the member
+abbrev pub names_field : List Constant → Member → ℕ → Bool
+names_field pool member index = is_field_entry pool member (entry_at pool index)
+
+abbrev pub names_method : List Constant → Member → ℕ → Bool
+names_method pool member index = is_method_entry pool member (entry_at pool index)
 
 -- ---- whether each entry names entries of the kinds that it needs (JVMS 4.4)
 

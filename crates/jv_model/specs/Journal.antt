@@ -1,7 +1,8 @@
 -- The journal of a run: which thread made how many steps, in order. It is all that a run depends on beside its program.
 use Rattle.std.specs.Prelude.{ℕ, List, [], ◌∷◌, ◌++◌, Bool, ◌&&◌, if◌then◌else◌, nat_le, Option, Some, None, is_some, flat_map, codes, decimal}
 use Rattle.jv_model.specs.Lines.{line_of}
-use Rattle.jv_model.specs.Machine.{Program, Machine, start, steps_of, ◌>>=◌}
+use Rattle.jv_model.specs.Partial.{◌>>=◌}
+use Rattle.jv_model.specs.Machine.{Program, Machine, start, steps_of}
 
 pub data Entry : Type 0 where
   -- the thread with this number made so many steps

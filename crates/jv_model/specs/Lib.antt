@@ -6,9 +6,14 @@ pub mod Lines
 pub mod Manifest
 pub mod Input
 pub mod ConstantPool
+pub mod Partial
+pub mod IntOperation
 pub mod Instruction
+pub mod OperandStack
+pub mod StraightLine
 pub mod Code
 pub mod ClassFile
+pub mod Effect
 pub mod Machine
 pub mod Journal
 pub mod RoundRobin

@@ -1,7 +1,10 @@
 -- The machine of a program (JVMS 2.5): threads of frames, what they printed, and the steps that they made.
-use Rattle.std.specs.Prelude.{ℕ, zero, suc, ◌+◌, ◌-◌, List, [], ◌∷◌, Bool, ◌==◌, if◌then◌else◌, Option, Some, None, is_some, option_and_then, length, take, slice_get, slice_set, find}
+use Rattle.std.specs.Prelude.{ℕ, zero, suc, ◌+◌, ◌-◌, List, [], ◌∷◌, ◌++◌, Bool, ◌==◌, if◌then◌else◌, Option, Some, None, is_some, length, take, slice_get, slice_set, find}
 use Rattle.std.specs.List.{list_all}
-use Rattle.jv_model.specs.Instruction.{Instruction, return, Body}
+use Rattle.jv_model.specs.Partial.{◌>>=◌}
+use Rattle.jv_model.specs.Instruction.{Placed, Body}
+use Rattle.jv_model.specs.OperandStack.{Value}
+use Rattle.jv_model.specs.Effect.{Effect, goes_on, returns, effect_of, fitting}
 use Rattle.jv_model.specs.End.{End, all_ended}
 
 pub record Program : Type 0 where
@@ -12,6 +15,8 @@ pub record Program : Type 0 where
 pub record Frame : Type 0 where
   -- the place of the instruction that comes next
   pub pc : ℕ
+  -- its operands, from the top down
+  pub stack : List Value
 
 -- A thread's frames, the oldest first. Without a frame the thread has ended.
 pub record Thread : Type 0 where
@@ -28,14 +33,10 @@ pub record Machine : Type 0 where
 abbrev pub start : Program → Machine
 start program = record {
   program = program;
-  threads = record { frames = record { pc = 0 } ∷ [] } ∷ [];
+  threads = record { frames = record { pc = 0; stack = [] } ∷ [] } ∷ [];
   output = [];
   steps = 0;
 }
-
-infixl 10 ◌>>=◌
-abbrev pub ◌>>=◌ : {A B : Type 0} → Option A → (A → Option B) → Option B
-o >>= f = option_and_then f o
 
 abbrev pub newest : Thread → Option Frame
 newest thread = slice_get thread.frames (length thread.frames - 1)
@@ -44,13 +45,18 @@ newest thread = slice_get thread.frames (length thread.frames - 1)
 abbrev pub returned : Thread → Thread
 returned thread = record { frames = take (length thread.frames - 1) thread.frames }
 
--- the machine one step on, with this as its thread t
-abbrev pub stepped : Machine → ℕ → Thread → Machine
-stepped machine t thread = record machine { threads = slice_set machine.threads t thread; steps = machine.steps + 1 }
+-- the thread with another frame in place of its newest one
+abbrev pub with_newest : Frame → Thread → Thread
+with_newest frame thread = record { frames = (returned thread).frames ++ frame ∷ [] }
 
--- the machine after an instruction of thread t (JVMS 6.5)
-abbrev pub executed : Instruction → Machine → ℕ → Thread → Machine
-executed return machine t thread = stepped machine t (returned thread)
+-- the machine one step on, with this as its thread t, and with these bytes printed
+abbrev pub stepped : Machine → ℕ → Thread → List ℕ → Machine
+stepped machine t thread bytes = record machine { threads = slice_set machine.threads t thread; output = machine.output ++ bytes; steps = machine.steps + 1 }
+
+-- the machine after an instruction of thread t that has that effect
+abbrev pub executed : Placed → Effect → Machine → ℕ → Thread → Machine
+executed placed (goes_on stack bytes) machine t thread = stepped machine t (with_newest (record { pc = placed.next; stack = stack }) thread) bytes
+executed placed returns machine t thread = stepped machine t (returned thread) []
 
 abbrev pub has_ended : Thread → Bool
 has_ended thread = length thread.frames == 0
@@ -65,7 +71,9 @@ step t machine = if is_some (end_of machine) then None else do
   thread ← slice_get machine.threads t
   frame ← newest thread
   placed ← find (λ i. i.pc == frame.pc) machine.program.main.instructions
-  Some (executed placed.instruction machine t thread)
+  effect ← effect_of placed.instruction frame.stack
+  fits ← fitting machine.program.main.max_stack effect
+  Some (executed placed fits machine t thread)
 
 -- that many steps of thread t, one after another, where it can make each of them
 unfoldable pub steps_of : ℕ → ℕ → Machine → Option Machine

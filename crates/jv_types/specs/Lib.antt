@@ -3,3 +3,4 @@ pub mod Units
 pub mod Entry
 pub mod Refusal
 pub mod Status
+pub mod IntOperation

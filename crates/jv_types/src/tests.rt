@@ -23,3 +23,38 @@ fn units_are_those_of_utf_16(rt: HostRuntime) -> Result<(), Fail> {
     );
     Ok(())
 }
+
+#[test]
+fn ints_wrap(rt: HostRuntime) {
+    // As `java` computes them.
+    for (operation, a, b, result) in [
+        (IntOperation::Add, 2_147_483_647, 1, -2_147_483_648),
+        (IntOperation::Subtract, -2_147_483_648, 1, 2_147_483_647),
+        (IntOperation::Subtract, 5, 7, -2),
+        (IntOperation::Multiply, 65_536, 65_536, 0),
+        (IntOperation::Multiply, 46_341, 46_341, -2_147_479_015),
+        (IntOperation::Conjunction, -7, 12, 8),
+        (IntOperation::Disjunction, -7, 12, -3),
+        (IntOperation::ExclusiveDisjunction, -7, 12, -11),
+    ] {
+        assert_eq!(rt;
+            int_op(operation, a, b),
+            result,
+            "{operation:?} of {a} and {b}"
+        );
+    }
+    assert_eq!(rt; int_negate(-2_147_483_648), -2_147_483_648);
+    assert_eq!(rt; int_negate(5), -5);
+}
+
+#[test]
+fn the_last_operand_is_on_top(rt: HostRuntime) -> Result<(), Fail> {
+    let mut stack = OperandStack::new(rt.alloc());
+    stack.push(1u8)?;
+    stack.push(2)?;
+    assert_eq!(rt; stack.len(), 2);
+    assert_eq!(rt; stack.pop(), Some(2));
+    assert_eq!(rt; stack.pop(), Some(1));
+    assert_eq!(rt; stack.pop(), None);
+    Ok(())
+}

@@ -3,7 +3,7 @@ pub mod WordLemmas
 pub mod LineLemmas
 pub mod FaultLemmas
 pub mod TextLemmas
-pub mod StraightLemmas
 pub mod LoadLemmas
+pub mod StraightLineLemmas
 pub mod RunLemmas
 pub mod OutcomeLemmas

@@ -6,6 +6,7 @@ use Rattle.std.proofs.lemmas.Bool.{cases_lt, lt-leb, le-ltb, lt-ltb}
 use Rattle.jv_model.specs.Limits.{most_file_bytes}
 use Rattle.jv_model.specs.Refusal.{Cause, LineKind, manifest_line, later}
 use Rattle.jv_model.specs.Instruction.{Body}
+use Rattle.jv_model.specs.StraightLine.{IsStraightLine}
 use Rattle.jv_model.specs.ClassFile.{main_body_of}
 use Rattle.jv_model.specs.Manifest.{Manifest, ClassItem, manifest_of}
 use Rattle.jv_model.specs.Invocation.{run_of}
@@ -16,7 +17,7 @@ use Rattle.class_reader.specs.declared.body.Body.{Body as Code}
 use Rattle.class_reader.specs.Body.{body_of}
 use Rattle.jvolve_top.specs.declared.load.Stop.{Stop}
 use Rattle.jvolve_top.specs.declared.load.Stop.TheVariants.{Refused, ReadFault, NoMemory}
-use Rattle.jvolve_top.specs.Loads.{Tells, StopIs, IsStraight, IsLoaded, program}
+use Rattle.jvolve_top.specs.Loads.{Tells, StopIs, IsLoaded, program}
 
 abbrev pub front_of : List ℕ → List ℕ
 front_of file = take (most_file_bytes + 1) file
@@ -109,8 +110,8 @@ stop_through told before mid now part whole ReadFault since through is = rose_si
 stop_through told before mid now part whole NoMemory since through is = tt
 
 outcome_through : (result : Result Code Stop) (told : Option Folder) (before mid now : ℕ) (part whole : Folder → Loading) → before ≤ mid → ((made : Loading) → Tells told part made → Tells told whole made)
-    → MatchResult result (λ body. Tells told part (loads (program body)) × IsStraight (body_of body)) (λ stop. StopIs told part mid now stop)
-    → MatchResult result (λ body. Tells told whole (loads (program body)) × IsStraight (body_of body)) (λ stop. StopIs told whole before now stop)
+    → MatchResult result (λ body. Tells told part (loads (program body)) × IsStraightLine (body_of body)) (λ stop. StopIs told part mid now stop)
+    → MatchResult result (λ body. Tells told whole (loads (program body)) × IsStraightLine (body_of body)) (λ stop. StopIs told whole before now stop)
 outcome_through (Ok body) told before mid now part whole since through is = (through (loads (program body)) is.0, is.1)
 outcome_through (Err stop) told before mid now part whole since through is = stop_through told before mid now part whole stop since through is
 

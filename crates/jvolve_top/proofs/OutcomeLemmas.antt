@@ -1,8 +1,7 @@
 -- What a call comes to.
-use Rattle.std.proofs.Common.{◌≡◌, ℕ, Bool, true, false, cond, List, Option, Some, None, is_some, sym, ap, subst, ◌∙◌, inl, inr, refl}
+use Rattle.std.proofs.Common.{◌≡◌, ℕ, List, Option, Some, None, is_some, sym, ap, subst, ◌∙◌, inl, inr, refl}
 use Rattle.std.specs.Prelude.{IfSome, IsSome, IsNone, ◌⊎◌}
 use Rattle.std.specs.Option.{option_map}
-use Rattle.std.specs.List.{list_all}
 use Rattle.jv_types.specs.declared.status.Status.{Status as StatusHere}
 use Rattle.jv_types.specs.declared.status.Status.TheVariants.{Finished, WriteFault, NoMemory}
 use Rattle.jv_types.specs.Entry.{entries_of}

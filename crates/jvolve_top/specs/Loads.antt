@@ -1,10 +1,10 @@
 -- What loading answers, as the definitions see it.
-use Rattle.std.specs.Prelude.{◌≡◌, ℕ, ◌+◌, ◌≤◌, List, [], ◌∷◌, Option, Result, IfSome, IsSomeAnd, MatchResult, take}
+use Rattle.std.specs.Prelude.{◌≡◌, ℕ, ◌+◌, ◌≤◌, List, Option, Result, IfSome, IsSomeAnd, MatchResult, take}
 use Rattle.jv_types.specs.Sequence.{Sequence}
 use Rattle.jv_types.specs.Refusal.{cause_of}
 use Rattle.jv_model.specs.Limits.{most_file_bytes}
 use Rattle.jv_model.specs.Faults.{Rose}
-use Rattle.jv_model.specs.Instruction as model
+use Rattle.jv_model.specs.StraightLine.{IsStraightLine}
 use Rattle.jv_model.specs.Machine.{Program}
 use Rattle.jv_model.specs.Load.{Folder, Loading, loads, refuses}
 use Rattle.class_reader.specs.declared.body.Body.{Body}
@@ -32,11 +32,7 @@ pub record IsRead (result : Result (Sequence ℕ) Stop) (told told_after : Optio
   pub same : told_after ≡ told
   pub later : before ≤ now
 
--- code that is one `return`
-abbrev pub IsStraight : model.Body → Type 0
-IsStraight body = body.instructions ≡ record { pc = 0; instruction = model.return } ∷ []
-
 -- the program that the files say, or why there is none
 pub record IsLoaded (result : Result Body Stop) (told : Option Folder) (before now : ℕ) (loading : Folder → Loading) : Type 0 where
-  pub outcome : MatchResult result (λ body. Tells told loading (loads (program body)) × IsStraight (body_of body)) (λ stop. StopIs told loading before now stop)
+  pub outcome : MatchResult result (λ body. Tells told loading (loads (program body)) × IsStraightLine (body_of body)) (λ stop. StopIs told loading before now stop)
   pub later : before ≤ now

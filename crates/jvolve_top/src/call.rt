@@ -1,10 +1,11 @@
 //! The call that does all that the program does.
 
 ghost use Rattle.std.specs.Prelude.{◌≡◌, [], IfOk};
+ghost use Rattle.jv_model.specs.StraightLine.{IsStraightLine};
 ghost use Rattle.jv_model.specs.Headline.{Headline};
 ghost use Rattle.class_reader.specs.Body.{body_of};
 ghost use Rattle.jvolve_top.specs.Sinks.{sunk, sinks};
-ghost use Rattle.jvolve_top.specs.Loads.{program, IsStraight};
+ghost use Rattle.jvolve_top.specs.Loads.{program};
 ghost use Rattle.jvolve_top.specs.Calls.{answer, call, IsMade, RunsOrStarves};
 ghost use Rattle.jvolve_top.specs.Words.{texts};
 
@@ -53,7 +54,7 @@ struct Made {
 
 /// Makes a run to its end, before anything is written of it.
 fn make_run(alloc: Global, body: &Body) -> Result<Made, NoMemory>
-    requires { IsStraight (body_of body.now) }
+    requires { IsStraightLine (body_of body.now) }
     ensures { IfOk result (IsMade (program body.now)) }
 {
     let Run { output, journal } = run_to_end(alloc, body)?;
@@ -80,7 +81,7 @@ fn run_program<O: Sink, R: Sink, J: Sink>(
     report: &mut R,
     trace: &mut J,
 ) -> Done
-    requires { IsStraight (body_of body.now) }
+    requires { IsStraightLine (body_of body.now) }
     ensures { RunsOrStarves (program body.now) (answer result
         (sinks (sunk (O.bytes out.old) (O.bytes out.new) (O.faults out.old) (O.faults out.new))
         (sunk (R.bytes report.old) (R.bytes report.new) (R.faults report.old) (R.faults report.new))

@@ -7,7 +7,7 @@ ghost use Rattle.jv_model.specs.Load.{load, load_class};
 ghost use Rattle.class_reader.specs.Body.{body_of};
 ghost use Rattle.jvolve_top.specs.Words.{asked};
 ghost use Rattle.jvolve_top.specs.Statements.{manifest_view, item_view};
-ghost use Rattle.jvolve_top.specs.Loads.{IsRead, IsLoaded, program, IsStraight};
+ghost use Rattle.jvolve_top.specs.Loads.{IsRead, IsLoaded, program};
 
 use crate::manifest::{Manifest, read_manifest};
 use crate::statement::ClassItem;

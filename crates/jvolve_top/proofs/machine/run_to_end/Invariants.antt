@@ -1,0 +1,13 @@
+use Rattle.std.proofs.Common.{length, map}
+use Rattle.jv_types.specs.Entry.{entries_of}
+use Rattle.class_reader.specs.Body.{placed_of}
+use Rattle.jvolve_top.specs.Loads.{program}
+use Rattle.jvolve_top.specs.Runs.{state}
+use Rattle.jvolve_top.proofs.RunLemmas.{IsUnderWay}
+use Rattle.jvolve_top.proofs.machine.run_to_end.Given as goal
+
+abbrev pub invariant-loop-rest : goal.invariant-loop-rest
+invariant-loop-rest l = IsUnderWay (program l.body) (entries_of l.journal.items) (map placed_of l.rest) (state l.machine)
+
+abbrev pub decreases-loop-rest : goal.decreases-loop-rest
+decreases-loop-rest l = length l.rest
