@@ -1,15 +1,14 @@
 -- Reading the instructions of a code array one after the other, as a loop does.
-use Rattle.std.proofs.Common.{◌≡◌, ℕ, zero, suc, ◌+◌, ◌-◌, ◌≤◌, true, false, eqb, List, [], ◌∷◌, ◌++◌, length, Result, Ok, Err, refl, sym, ap, subst, ◌∙◌, append_assoc, arith}
+use Rattle.std.proofs.Common.{◌≡◌, ℕ, zero, suc, ◌+◌, ◌-◌, ◌≤◌, true, false, eqb, List, [], ◌∷◌, ◌++◌, length, Option, Result, Ok, Err, refl, sym, ap, subst, ◌∙◌, append_assoc, arith}
 use Rattle.std.proofs.lemmas.List.{append-nil}
 use Rattle.std.proofs.lemmas.Bool.Decides.{nat_tests}
-use Rattle.class_reader.specs.declared.error.ClassError.{ClassError}
 use Rattle.jv_model.specs.Refusal.{Cause}
 use Rattle.jv_model.specs.Input.{Input, ◌>>=◌}
 use Rattle.jv_model.specs.ConstantPool.{Constant}
 use Rattle.jv_model.specs.Instruction.{Placed}
 use Rattle.jv_model.specs.Code.{placed_at, instructions_at}
-use Rattle.class_reader.specs.Gives.{Fails}
-use Rattle.class_reader.proofs.Failing.{Fails-first}
+use Rattle.class_reader.specs.Gives.{Refuses}
+use Rattle.class_reader.proofs.Refusing.{Refuses-first}
 
 -- these instructions, and those that are read behind them
 abbrev pub with_front : List Placed → Result (List Placed) Cause → Result (List Placed) Cause
@@ -32,12 +31,12 @@ goes_on pool front bound count input placed rest whole some room first so_far =
     rw (bound_left bound count (length input.bytes) some room, some, first) (regroup front placed (instructions_at pool (bound - (count + 1)) rest)) in
     sym one ∙ so_far
 
-pub fails : (error : ClassError) (pool : List Constant) (front : List Placed) (bound count : ℕ) (input : Input) (whole : Result (List Placed) Cause)
-    → eqb (length input.bytes) 0 ≡ false → length input.bytes + count ≤ bound → Fails error (placed_at pool input)
-    → with_front front (instructions_at pool (bound - count) input) ≡ whole → Fails error whole
+pub fails : (refusal : Option Cause) (pool : List Constant) (front : List Placed) (bound count : ℕ) (input : Input) (whole : Result (List Placed) Cause)
+    → eqb (length input.bytes) 0 ≡ false → length input.bytes + count ≤ bound → Refuses refusal (placed_at pool input)
+    → with_front front (instructions_at pool (bound - count) input) ≡ whole → Refuses refusal whole
 unfolding instructions_at
-fails error pool front bound count input whole some room first so_far =
-    subst (Fails error) so_far (rw (bound_left bound count (length input.bytes) some room, some) (Fails-first error _ _ (Fails-first error (placed_at pool input) _ first)))
+fails refusal pool front bound count input whole some room first so_far =
+    subst (Refuses refusal) so_far (rw (bound_left bound count (length input.bytes) some room, some) (Refuses-first refusal _ _ (Refuses-first refusal (placed_at pool input) _ first)))
 
 at_the_end : (pool : List Constant) (bound : ℕ) (input : Input) → eqb (length input.bytes) 0 ≡ true → instructions_at pool bound input ≡ Ok []
 unfolding instructions_at

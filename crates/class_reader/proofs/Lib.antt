@@ -1,4 +1,9 @@
-pub mod Failing
-pub mod Constants
+pub mod Refusing
+pub mod InFront
+pub mod Counted
 pub mod Instructions
 pub mod Places
+pub mod Units
+pub mod Entries
+pub mod Attributes
+pub mod Laws

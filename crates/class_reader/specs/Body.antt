@@ -1,10 +1,10 @@
 -- Which body of the definitions a `Body` is.
 use Rattle.std.specs.Prelude.{map}
 use Rattle.jv_types.specs.IntOperation.{operation_of}
-use Rattle.class_reader.specs.declared.body.Instruction.{Instruction}
-use Rattle.class_reader.specs.declared.body.Instruction.TheVariants.{Constant, Arithmetic, Negate, Pop, GetOut, PrintLine, Return}
-use Rattle.class_reader.specs.declared.body.Placed.{Placed}
-use Rattle.class_reader.specs.declared.body.Body.{Body}
+use Rattle.class_reader.specs.declared.first_form.body.Instruction.{Instruction}
+use Rattle.class_reader.specs.declared.first_form.body.Instruction.TheVariants.{Constant, Arithmetic, Negate, Pop, GetOut, PrintLine, Return}
+use Rattle.class_reader.specs.declared.first_form.body.Placed.{Placed}
+use Rattle.class_reader.specs.declared.first_form.body.Body.{Body}
 use Rattle.jv_model.specs.Instruction as model
 
 abbrev pub instruction_of : Instruction → model.Instruction

@@ -1,10 +1,7 @@
 -- Which entry of the definitions a `Constant` is, and which member a `Member`.
-use Rattle.std.specs.Prelude.{List, ◌++◌, Result, Ok}
-use Rattle.class_reader.specs.declared.pool.Constant.{Constant}
-use Rattle.class_reader.specs.declared.pool.Constant.TheVariants.{Gap, Utf8, Integer, Class, Fieldref, Methodref, NameAndType}
-use Rattle.class_reader.specs.declared.pool.Member.{Member}
-use Rattle.jv_model.specs.Refusal.{Cause}
-use Rattle.jv_model.specs.Input.{Input, ◌>>=◌}
+use Rattle.class_reader.specs.declared.first_form.pool.Constant.{Constant}
+use Rattle.class_reader.specs.declared.first_form.pool.Constant.TheVariants.{Gap, Utf8, Integer, Class, Fieldref, Methodref, NameAndType}
+use Rattle.class_reader.specs.declared.first_form.pool.Member.{Member}
 use Rattle.jv_model.specs.ConstantPool as model
 
 abbrev pub constant_of : Constant → model.Constant
@@ -18,7 +15,3 @@ constant_of (NameAndType name descriptor) = model.name_and_type name descriptor
 
 abbrev pub member_of : Member → model.Member
 member_of member = record { class = member.class.now; name = member.name.now; descriptor = member.descriptor.now }
-
--- these entries, and those that are read behind them
-abbrev pub with_front : List model.Constant → Result (List model.Constant × Input) Cause → Result (List model.Constant × Input) Cause
-with_front front read = read >>= λ others. Ok (front ++ others.0, others.1)

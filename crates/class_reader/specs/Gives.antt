@@ -1,16 +1,50 @@
 -- What an answer says about the reading of the definitions.
-use Rattle.std.specs.Prelude.{◌≡◌, Result, Ok, Err}
+use Rattle.std.specs.Prelude.{◌≡◌, Option, Some, None, Result, Ok, Err}
+use Rattle.jv_types.specs.Refusal.{limited_of}
+use Rattle.class_reader.specs.declared.cut.Cut.{Cut}
 use Rattle.class_reader.specs.declared.error.ClassError.{ClassError}
-use Rattle.class_reader.specs.declared.error.ClassError.TheVariants.{Truncated, Later, NoMemory}
-use Rattle.jv_model.specs.Refusal.{Cause, truncated, later}
+use Rattle.class_reader.specs.declared.error.ClassError.TheVariants as class_errors
+use Rattle.class_reader.specs.declared.first_form.error.FormError.{FormError}
+use Rattle.class_reader.specs.declared.first_form.error.FormError.TheVariants as form_errors
+use Rattle.jv_model.specs.Refusal.{Cause, truncated, wrong_magic, wrong_version, wrong_constant, wrong_text, wrong_attribute, extra_bytes, above_limit, later}
 
--- An error is the refusal of the same name. Want of memory says nothing.
-abbrev pub Fails : {Y : Type 0} → ClassError → Result Y Cause → Type 0
-Fails (Truncated at) read = read ≡ Err (truncated at)
-Fails Later read = read ≡ Err later
-Fails NoMemory read = Unit {0}
+-- The refusal is what reading gives. Where an error is no refusal, as want of memory, it says nothing.
+abbrev pub Refuses : {Y : Type 0} → Option Cause → Result Y Cause → Type 0
+Refuses (Some cause) read = read ≡ Err cause
+Refuses None read = Unit {0}
 
--- An answer is what reading gives, its value seen by view.
-abbrev pub Gives : {X Y : Type 0} → (X → Y) → Result X ClassError → Result Y Cause → Type 0
-Gives view (Ok x) read = read ≡ Ok (view x)
-Gives view (Err error) read = Fails error read
+-- An answer is what reading gives, its value seen by view, and its error by refusal_of.
+abbrev pub Gives : {E X Y : Type 0} → (E → Option Cause) → (X → Y) → Result X E → Result Y Cause → Type 0
+Gives refusal_of view (Ok x) read = read ≡ Ok (view x)
+Gives refusal_of view (Err error) read = Refuses (refusal_of error) read
+
+-- one item
+abbrev pub cut_refusal : Cut → Option Cause
+cut_refusal cut = Some (truncated cut.at)
+
+abbrev pub GivesItem : {X Y : Type 0} → (X → Y) → Result X Cut → Result Y Cause → Type 0
+GivesItem view answer read = Gives cut_refusal view answer read
+
+-- a class file in its first form, or a part of one
+abbrev pub form_refusal : FormError → Option Cause
+form_refusal (form_errors.Truncated at) = Some (truncated at)
+form_refusal form_errors.Later = Some later
+form_refusal form_errors.NoMemory = None
+
+abbrev pub GivesForm : {X Y : Type 0} → (X → Y) → Result X FormError → Result Y Cause → Type 0
+GivesForm view answer read = Gives form_refusal view answer read
+
+-- a class file, or a part of one
+abbrev pub class_refusal : ClassError → Option Cause
+class_refusal (class_errors.Truncated at) = Some (truncated at)
+class_refusal class_errors.Magic = Some wrong_magic
+class_refusal (class_errors.Version major) = Some (wrong_version major)
+class_refusal (class_errors.Pool index) = Some (wrong_constant index)
+class_refusal (class_errors.Utf8 index) = Some (wrong_text index)
+class_refusal (class_errors.Attribute at) = Some (wrong_attribute at)
+class_refusal (class_errors.Extra at) = Some (extra_bytes at)
+class_refusal (class_errors.Limit what n) = Some (above_limit (limited_of what) n)
+class_refusal class_errors.NoMemory = None
+
+abbrev pub GivesClass : {X Y : Type 0} → (X → Y) → Result X ClassError → Result Y Cause → Type 0
+GivesClass view answer read = Gives class_refusal view answer read

@@ -3,3 +3,9 @@ pub mod Gives
 pub mod Input
 pub mod Constant
 pub mod Operands
+pub mod InFront
+pub mod Units
+pub mod Entries
+pub mod Owner
+pub mod MemberKind
+pub mod ClassBody

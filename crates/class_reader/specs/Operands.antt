@@ -1,7 +1,7 @@
 -- What is known of the operands in a frame.
 use Rattle.std.specs.Prelude.{◌≡◌, Bool, true, false, List, map, Option, Some, None}
-use Rattle.class_reader.specs.declared.operands.ValueType.{ValueType}
-use Rattle.class_reader.specs.declared.operands.ValueType.TheVariants.{Int, PrintStream}
+use Rattle.class_reader.specs.declared.first_form.operands.ValueType.{ValueType}
+use Rattle.class_reader.specs.declared.first_form.operands.ValueType.TheVariants.{Int, PrintStream}
 use Rattle.jv_model.specs.OperandStack as model
 
 -- which type of the definitions a `ValueType` is

@@ -1,155 +1,162 @@
-//! A class file (JVMS 4.1) of one class with one method, its main.
+//! A class file (JVMS 4.1).
 
-ghost use Rattle.std.specs.Prelude.{◌≡◌, IfOk};
-ghost use Rattle.jv_model.specs.StraightLine.{IsStraightLine};
-ghost use Rattle.jv_model.specs.ClassFile.{version_at, begins_with, is_reserved, is_wanted, class_head_at, has_text, method_head_at, code_attribute_at, main_body_of};
-ghost use Rattle.class_reader.specs.Body.{body_of};
-ghost use Rattle.class_reader.specs.Gives.{Gives};
+ghost use Rattle.std.specs.Prelude.{◌≡◌, ◌≤◌, ℕ, IfOk, Ok, length};
+ghost use Rattle.jv_model.specs.Limits.{most_file_bytes};
+ghost use Rattle.jv_model.specs.ClassData.{ClassData as ClassFileData};
+ghost use Rattle.jv_model.specs.Profile.{SpellsClass};
+ghost use Rattle.jv_model.specs.ClassReading.{classes_at, versions_at, class_body_at, class_at, class_of};
+ghost use Rattle.jv_types.specs.ClassData.{class_data_of};
+ghost use Rattle.class_reader.specs.ClassBody.{class_with};
+ghost use Rattle.class_reader.specs.Gives.{GivesClass};
 
-use crate::body::Body;
-use crate::code::read_body;
+use crate::attribute::{Owner, read_attributes};
+use crate::constant_pool::{Kind, Pool, read_index, read_pool};
 use crate::error::ClassError;
-use crate::input::Input;
-use crate::pool::{Pool, is_text};
+use crate::input::{Input, MOST_FILE_BYTES};
+use crate::member::{MemberKind, read_members};
+use jv_types::{Attr, ClassData, List, Member, What};
 use std::alloc::Global;
 
-/// The most bytes that a class file has.
-const MOST_FILE_BYTES: usize = 1_048_576;
-
 /// What each class file begins with.
-const MAGIC: u32 = 0xcafe_babe;
+pub const MAGIC: u32 = 0xcafe_babe;
 
-/// The flags of a method that is public and static, and nothing else (JVMS 4.6).
-const PUBLIC_STATIC: u16 = 9;
+/// The minor and the major version of a class file.
+#[derive(Clone, Copy)]
+struct Versions {
+    minor: u16,
+    major: u16,
+}
+
+/// What stands behind the constant pool.
+#[derive(Drop)]
+struct ClassBody {
+    flags: u16,
+    this_class: u16,
+    super_class: u16,
+    interfaces: List<u16>,
+    fields: List<Member>,
+    methods: List<Member>,
+    attributes: List<Attr>,
+}
 
 /// Reads the magic number and the versions. The major ones are those of Java SE 7 and 8.
-#[tactic(auto, unfolding(jv_model::specs::ClassFile::version_at))]
-fn read_version(input: &mut Input) -> Result<(), ClassError>
-    ensures { Gives (λ _. input.new) result (version_at input.old) }
+#[tactic(auto, unfolding(jv_model::specs::ClassReading::versions_at))]
+fn read_versions(input: &mut Input) -> Result<Versions, ClassError>
+    ensures { GivesClass (λ versions. ((versions.minor, versions.major), input.new)) result (versions_at input.old) }
 {
     if input.u4()? != MAGIC {
-        return Err(ClassError::Later);
+        return Err(ClassError::Magic);
     }
-    let _minor = input.u2()?;
+    let minor = input.u2()?;
     let major = input.u2()?;
     if major != 51 && major != 52 {
-        return Err(ClassError::Later);
+        return Err(ClassError::Version {
+            major: u32::from(major),
+        });
     }
-    Ok(())
+    Ok(Versions { minor, major })
 }
 
-fn begins_with(front: &[u8], name: &[u8]) -> bool
-    ensures { result ≡ begins_with front.now name.now }
-{
-    name.starts_with(front)
-}
-
-/// Whether only the machine's own classes have such a name.
-fn is_reserved(name: &[u8]) -> bool
-    ensures { result ≡ is_reserved name.now }
-{
-    begins_with(b"java/", name) || begins_with(b"jvolve/", name) || begins_with(b"jvold/", name)
-}
-
-/// Whether the class at an index is the one that is asked for, which has to be the main class and
-/// none of the machine's own.
-fn is_wanted(pool: &Pool, class: &str, main: &str, index: u16) -> bool
-    ensures { result ≡ is_wanted pool.now class.now main.now index }
-{
-    is_text(pool.class_name(index), class.as_bytes())
-        && class == main
-        && !is_reserved(class.as_bytes())
-}
-
-/// Reads any flags, the class, its superclass, no interfaces and no fields.
-#[tactic(auto, unfolding(jv_model::specs::ClassFile::class_head_at))]
-fn read_class_head(
+/// Reads the indices of so many classes.
+fn read_classes(
+    alloc: Global,
     pool: &Pool,
-    class: &str,
-    main: &str,
+    count: u16,
     input: &mut Input,
-) -> Result<(), ClassError>
-    ensures { Gives (λ _. input.new) result (class_head_at pool.now class.now main.now input.old) }
+) -> Result<List<u16>, ClassError>
+    ensures { GivesClass (λ classes. (classes.items, input.new)) result (classes_at pool.now count input.old) }
 {
-    let _flags = input.u2()?;
-    let this_class = input.u2()?;
-    if !is_wanted(pool, class, main, this_class) {
-        return Err(ClassError::Later);
+    let mut classes = List::new(alloc);
+    for _ in 0..count {
+        let class = read_index(pool, Kind::Class, input)?;
+        classes.push(class)?;
     }
-    let super_class = input.u2()?;
-    if !is_text(pool.class_name(super_class), b"java/lang/Object") {
-        return Err(ClassError::Later);
-    }
-    input.u2_of(0)?;
-    input.u2_of(0)
+    Ok(classes)
 }
 
-fn has_text(pool: &Pool, text: &[u8], index: u16) -> bool
-    ensures { result ≡ has_text pool.now text.now index }
+/// Reads what stands behind the constant pool.
+#[tactic(auto, unfolding(jv_model::specs::ClassReading::class_body_at))]
+fn read_class_body(alloc: Global, pool: &Pool, input: &mut Input) -> Result<ClassBody, ClassError>
+    ensures { (minor major : ℕ) → GivesClass (λ body. (class_with minor major pool.now body, input.new)) result
+        (class_body_at minor major pool.now input.old) }
 {
-    is_text(pool.text(index), text)
+    let flags = input.u2()?;
+    let this_class = read_index(pool, Kind::Class, input)?;
+    let super_class = read_index(pool, Kind::Class, input)?;
+    let count = input.u2()?;
+    let interfaces = read_classes(alloc, pool, count, input)?;
+    let count = input.u2()?;
+    let fields = read_members(alloc, pool, MemberKind::Field, count, input)?;
+    let count = input.u2()?;
+    let methods = read_members(alloc, pool, MemberKind::Method, count, input)?;
+    let count = input.u2()?;
+    let attributes = read_attributes(alloc, pool, Owner::Class, count, input)?;
+    Ok(ClassBody {
+        flags,
+        this_class,
+        super_class,
+        interfaces,
+        fields,
+        methods,
+        attributes,
+    })
 }
 
-/// Reads one method (JVMS 4.6), which is public, static and named main, with one attribute.
-#[tactic(auto, unfolding(jv_model::specs::ClassFile::method_head_at))]
-fn read_method_head(pool: &Pool, input: &mut Input) -> Result<(), ClassError>
-    ensures { Gives (λ _. input.new) result (method_head_at pool.now input.old) }
+/// Reads a class file, behind whose last attribute anything may stand.
+#[tactic(auto, unfolding(jv_model::specs::ClassReading::class_at))]
+fn read_front(alloc: Global, input: &mut Input) -> Result<ClassData, ClassError>
+    ensures { GivesClass (λ file. (class_data_of file, input.new)) result (class_at input.old) }
 {
-    input.u2_of(1)?;
-    input.u2_of(PUBLIC_STATIC)?;
-    let name = input.u2()?;
-    if !has_text(pool, b"main", name) {
-        return Err(ClassError::Later);
-    }
-    let descriptor = input.u2()?;
-    if !has_text(pool, b"([Ljava/lang/String;)V", descriptor) {
-        return Err(ClassError::Later);
-    }
-    input.u2_of(1)
+    let versions = read_versions(input)?;
+    let entries = read_pool(alloc, versions.major, input)?;
+    let body = read_class_body(alloc, &Pool::of(&entries), input)?;
+    Ok(ClassData {
+        minor: versions.minor,
+        major: versions.major,
+        pool: entries,
+        flags: body.flags,
+        this_class: body.this_class,
+        super_class: body.super_class,
+        interfaces: body.interfaces,
+        fields: body.fields,
+        methods: body.methods,
+        attributes: body.attributes,
+    })
 }
 
-/// Reads the method's attribute, which is its code (JVMS 4.7).
-#[tactic(auto, unfolding(jv_model::specs::ClassFile::code_attribute_at))]
-fn read_code_attribute(alloc: Global, pool: &Pool, input: &mut Input) -> Result<Body, ClassError>
-    ensures code { Gives (λ body. (body_of body, input.new)) result
-        (code_attribute_at pool.now input.old) }
-    ensures straight { IfOk result (λ body. IsStraightLine (body_of body)) }
-{
-    let name = input.u2()?;
-    if !has_text(pool, b"Code", name) {
-        return Err(ClassError::Later);
-    }
-    let count = input.u4()?;
-    let bytes = input.run(count)?;
-    read_body(alloc, pool, bytes)
-}
-
-/// The code of the main method in the bytes of a class file, of at most 1,048,576 bytes (JVMS 4.1).
-///
-/// `class` is the name of the class that the file has to hold, and `main` that of the main class,
-/// both as the file spells them, with `/` between their parts.
-///
-/// The error is the first item that isn't whole, or the first thing in a form that isn't built yet,
-/// as a second class, a field or a second method. A longer file has such a form as a whole.
-#[tactic(auto, unfolding(jv_model::specs::ClassFile::main_body_of))]
-pub fn read_main(alloc: Global, bytes: &[u8], class: &str, main: &str) -> Result<Body, ClassError>
-    ensures body { Gives body_of result (main_body_of class.now main.now bytes.now) }
-
-    // What is read is the one kind of code that it may be, so that who runs it needs no look of its own.
-    ensures straight { IfOk result (λ body. IsStraightLine (body_of body)) }
+/// What the bytes of a class file say, all of them.
+#[tactic(auto, unfolding(jv_model::specs::ClassReading::class_of))]
+fn read_whole(alloc: Global, bytes: &[u8]) -> Result<ClassData, ClassError>
+    ensures { GivesClass class_data_of result (class_of bytes.now) }
 {
     if bytes.len() > MOST_FILE_BYTES {
-        return Err(ClassError::Later);
+        return Err(ClassError::Limit {
+            what: What::File,
+            n: bytes.len() as u64,
+        });
     }
     let mut input = Input::whole_of(bytes);
-    read_version(&mut input)?;
-    let pool = Pool::read(alloc, &mut input)?;
-    read_class_head(&pool, class, main, &mut input)?;
-    read_method_head(&pool, &mut input)?;
-    let body = read_code_attribute(alloc, &pool, &mut input)?;
-    input.u2_of(0)?;
+    let file = read_front(alloc, &mut input)?;
     if !input.is_empty() {
-        return Err(ClassError::Later);
+        return Err(ClassError::Extra { at: input.at() });
     }
-    Ok(body)
+    Ok(file)
+}
+
+/// What the bytes of a class file say (JVMS 4.1), of which there may be 1,048,576.
+///
+/// The error is the first thing that is wrong, from the front. What entries of the constant pool
+/// name is looked at once all of them are read. A file that is too long has that error alone.
+pub fn read_class(alloc: Global, bytes: &[u8]) -> Result<ClassData, ClassError>
+    // What is read is spelled so.
+    ensures found { IfOk result (λ file. SpellsClass bytes.now (class_data_of file)) }
+
+    // What is spelled so is read, unless memory runs out.
+    ensures only { (file : ClassFileData) → SpellsClass bytes.now file → length bytes.now ≤ most_file_bytes
+        → GivesClass class_data_of result (Ok file) }
+
+    // Which refusal it is.
+    ensures refusal { GivesClass class_data_of result (class_of bytes.now) }
+{
+    read_whole(alloc, bytes)
 }

@@ -2,13 +2,16 @@
 
 ghost use Rattle.std.specs.Prelude.{◌≡◌, ◌≤◌, ◌+◌, ◌==◌, length, IfOk, OnOk};
 ghost use Rattle.jv_model.specs.Limits.{most_file_bytes};
-ghost use Rattle.jv_model.specs.Input.{whole_of, number_at, number_where, bytes_at};
-ghost use Rattle.class_reader.specs.Gives.{Gives};
+ghost use Rattle.jv_model.specs.Input.{whole_of, number_at, bytes_at};
+ghost use Rattle.class_reader.specs.Gives.{GivesItem};
 ghost use Rattle.class_reader.specs.Input.{IsFurther};
 
-use crate::error::ClassError;
+use crate::cut::Cut;
 use byteorder::{BigEndian, ByteOrder};
 use std::marker::Model;
+
+/// The most bytes that a class file has.
+pub const MOST_FILE_BYTES: usize = 1_048_576;
 
 /// The bytes that are still to be read, and the place of the first of them. Contracts see the
 /// definitions' own `Input`. After an error nothing is said of it.
@@ -55,14 +58,15 @@ impl<'a> Input<'a> {
     }
 
     /// The next run of so many bytes.
-    pub fn run(&mut self, count: u32) -> Result<&'a [u8], ClassError>
-        ensures run { Gives (λ run. (run.now, self.new)) result (bytes_at count self.old) }
+    pub fn run(&mut self, count: u32) -> Result<&'a [u8], Cut>
+        ensures run { GivesItem (λ run. (run.now, self.new)) result (bytes_at count self.old) }
+        ensures whole { IfOk result (λ run. length run.now ≡ count) }
         ensures short { IfOk result (λ run. length run.now ≤ most_file_bytes) }
         ensures left { OnOk result (length self.new.bytes + count ≡ length self.old.bytes) }
         ensures at { OnOk result (self.new.at ≡ self.old.at + count) }
     {
         let Some((run, rest)) = self.bytes.split_at_checked(count as usize) else {
-            return Err(ClassError::Truncated { at: self.at });
+            return Err(Cut { at: self.at });
         };
         self.at += count;
         self.bytes = rest;
@@ -70,8 +74,8 @@ impl<'a> Input<'a> {
     }
 
     /// The next number of one byte, a `u1`.
-    pub fn u1(&mut self) -> Result<u8, ClassError>
-        ensures number { Gives (λ number. (number, self.new)) result (number_at 1 self.old) }
+    pub fn u1(&mut self) -> Result<u8, Cut>
+        ensures number { GivesItem (λ number. (number, self.new)) result (number_at 1 self.old) }
         ensures further { OnOk result (IsFurther self.old self.new) }
     {
         let bytes = self.run(1)?;
@@ -79,8 +83,8 @@ impl<'a> Input<'a> {
     }
 
     /// The next number of two bytes, a `u2`.
-    pub fn u2(&mut self) -> Result<u16, ClassError>
-        ensures number { Gives (λ number. (number, self.new)) result (number_at 2 self.old) }
+    pub fn u2(&mut self) -> Result<u16, Cut>
+        ensures number { GivesItem (λ number. (number, self.new)) result (number_at 2 self.old) }
         ensures further { OnOk result (IsFurther self.old self.new) }
     {
         let bytes = self.run(2)?;
@@ -88,21 +92,18 @@ impl<'a> Input<'a> {
     }
 
     /// The next number of four bytes, a `u4`.
-    pub fn u4(&mut self) -> Result<u32, ClassError>
-        ensures { Gives (λ number. (number, self.new)) result (number_at 4 self.old) }
+    pub fn u4(&mut self) -> Result<u32, Cut>
+        ensures { GivesItem (λ number. (number, self.new)) result (number_at 4 self.old) }
     {
         let bytes = self.run(4)?;
         Ok(BigEndian::read_u32(bytes))
     }
 
-    /// The next `u2`, which has to be this one.
-    pub fn u2_of(&mut self, wanted: u16) -> Result<(), ClassError>
-        ensures { Gives (λ _. (wanted, self.new)) result
-            (number_where 2 (λ number. number == wanted) self.old) }
+    /// The next number of eight bytes.
+    pub fn u8(&mut self) -> Result<u64, Cut>
+        ensures { GivesItem (λ number. (number, self.new)) result (number_at 8 self.old) }
     {
-        if self.u2()? != wanted {
-            return Err(ClassError::Later);
-        }
-        Ok(())
+        let bytes = self.run(8)?;
+        Ok(BigEndian::read_u64(bytes))
     }
 }

@@ -22,3 +22,9 @@ pub mod Load
 pub mod Faults
 pub mod Delivery
 pub mod Headline
+pub mod ClassData
+pub mod ModifiedUtf8
+pub mod ClassBytes
+pub mod Profile
+pub mod ClassReading
+pub mod ClassLimits

@@ -4,3 +4,4 @@ pub mod Entry
 pub mod Refusal
 pub mod Status
 pub mod IntOperation
+pub mod ClassData

@@ -19,6 +19,22 @@ pub enum LineKind {
     Main,
 }
 
+/// What has a limit, or a count that can't be longer than two bytes say.
+#[derive(Clone, Copy, Debug, PartialEq, Eq)]
+pub enum What {
+    /// The bytes of a file.
+    File,
+    /// The entries of a constant pool, with the gap at its front.
+    Pool,
+    /// The bytes of a text in a constant pool.
+    Utf8,
+    Interfaces,
+    Fields,
+    Methods,
+    /// Those of a class, a field or a method.
+    Attributes,
+}
+
 /// Why input is refused. A user is told the number and the words that `jv_model` gives each.
 #[derive(Clone, Copy, Debug, PartialEq, Eq)]
 pub enum Cause {

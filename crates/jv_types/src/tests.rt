@@ -58,3 +58,43 @@ fn the_last_operand_is_on_top(rt: HostRuntime) -> Result<(), Fail> {
     assert_eq!(rt; stack.pop(), None);
     Ok(())
 }
+
+#[test]
+fn class_data_are_copied(rt: HostRuntime) -> Result<(), Fail> {
+    let alloc = rt.alloc();
+    let mut value = Attr {
+        name: 1,
+        bytes: List::new(alloc),
+    };
+    value.bytes.append(&[0, 2])?;
+    let mut field = Member {
+        flags: 3,
+        name: 4,
+        descriptor: 5,
+        attributes: List::new(alloc),
+    };
+    field.attributes.push(value)?;
+    let mut file = ClassData {
+        minor: 0,
+        major: 52,
+        pool: List::new(alloc),
+        flags: 6,
+        this_class: 7,
+        super_class: 8,
+        interfaces: List::new(alloc),
+        fields: List::new(alloc),
+        methods: List::new(alloc),
+        attributes: List::new(alloc),
+    };
+    file.pool.push(Const::Gap)?;
+    file.pool.push(Const::Utf8(units(alloc, "Main")?))?;
+    file.pool.push(Const::MethodHandle(9, 10))?;
+    file.interfaces.push(11)?;
+    file.fields.push(field)?;
+    let copy = file.copy(alloc)?;
+    assert_eq!(rt;
+        format!(in alloc; "{copy:?}")?,
+        format!(in alloc; "{file:?}")?
+    );
+    Ok(())
+}

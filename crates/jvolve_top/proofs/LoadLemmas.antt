@@ -13,7 +13,7 @@ use Rattle.jv_model.specs.Invocation.{run_of}
 use Rattle.jv_model.specs.Load.{Folder, Loading, loads, refuses, program_of, load_class, load_items, load_manifest, load_text, load}
 use Rattle.jv_model.specs.Faults.{Rose}
 use Rattle.jv_types.specs.Refusal.{cause_of}
-use Rattle.class_reader.specs.declared.body.Body.{Body as Code}
+use Rattle.class_reader.specs.declared.first_form.body.Body.{Body as Code}
 use Rattle.class_reader.specs.Body.{body_of}
 use Rattle.jvolve_top.specs.declared.load.Stop.{Stop}
 use Rattle.jvolve_top.specs.declared.load.Stop.TheVariants.{Refused, ReadFault, NoMemory}

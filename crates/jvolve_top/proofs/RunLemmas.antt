@@ -10,7 +10,7 @@ use Rattle.jv_model.specs.StraightLine.{is_straight, IsStraightLine, FollowEachO
 use Rattle.jv_model.specs.Machine.{Program, Machine, start, step, steps_of}
 use Rattle.jv_model.specs.Journal.{Entry, run, made, is_legal, replayed}
 use Rattle.jv_model.specs.RoundRobin.{most_slice_steps, next_thread, IsSlice, TakesTurns}
-use Rattle.class_reader.specs.declared.body.Placed.{Placed as Here}
+use Rattle.class_reader.specs.declared.first_form.body.Placed.{Placed as Here}
 use Rattle.class_reader.specs.Body.{placed_of}
 use Rattle.jvolve_top.specs.Runs.{State, after_all, IsTurn, RanToEnd}
 use Rattle.jvolve_top.proofs.StraightLineLemmas.{machine_at, IsReady, RanSlice, slice_runs}

@@ -2,7 +2,7 @@
 use Rattle.std.proofs.Common.{◌≡◌, ℕ, List, [], ◌∷◌, ◌++◌, codes, refl, ap, sym, ◌∙◌, append_assoc}
 use Rattle.std.specs.Prelude.{decimal}
 use Rattle.jv_model.specs.Lines.{spaced, line_of}
-use Rattle.jv_model.specs.Refusal.{Cause, truncated, manifest_line, later, cause_words}
+use Rattle.jv_model.specs.Refusal.{Cause, truncated, wrong_magic, wrong_version, wrong_constant, wrong_text, wrong_attribute, extra_bytes, above_limit, manifest_line, later, cause_words}
 use Rattle.jv_model.specs.Status.{bad_input, status_line}
 
 line_of-spaced : (words : List (List ℕ)) → line_of words ≡ spaced words ++ 10 ∷ []
@@ -13,6 +13,13 @@ line_of-spaced (word ∷ next ∷ others) =
 
 behind_word : (word : List ℕ) (cause : Cause) → line_of (word ∷ cause_words cause) ≡ word ++ 32 ∷ line_of (cause_words cause)
 behind_word word (truncated at) = refl
+behind_word word wrong_magic = refl
+behind_word word (wrong_version major) = refl
+behind_word word (wrong_constant index) = refl
+behind_word word (wrong_text index) = refl
+behind_word word (wrong_attribute at) = refl
+behind_word word (extra_bytes at) = refl
+behind_word word (above_limit what count) = refl
 behind_word word (manifest_line number kind) = refl
 behind_word word later = refl
 

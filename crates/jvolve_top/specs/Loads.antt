@@ -7,7 +7,7 @@ use Rattle.jv_model.specs.Faults.{Rose}
 use Rattle.jv_model.specs.StraightLine.{IsStraightLine}
 use Rattle.jv_model.specs.Machine.{Program}
 use Rattle.jv_model.specs.Load.{Folder, Loading, loads, refuses}
-use Rattle.class_reader.specs.declared.body.Body.{Body}
+use Rattle.class_reader.specs.declared.first_form.body.Body.{Body}
 use Rattle.class_reader.specs.Body.{body_of}
 use Rattle.jvolve_top.specs.declared.load.Stop.{Stop}
 use Rattle.jvolve_top.specs.declared.load.Stop.TheVariants.{Refused, ReadFault, NoMemory}

@@ -12,7 +12,7 @@ ghost use Rattle.jvolve_top.specs.Loads.{IsRead, IsLoaded, program};
 use crate::manifest::{Manifest, read_manifest};
 use crate::statement::ClassItem;
 use crate::words::Invocation;
-use class_reader::{Body, ClassError, read_main};
+use class_reader::{Body, FormError, read_main};
 use jv_outer::{Files, ReadError};
 use jv_types::{Bytes, Cause, Status};
 use std::alloc::Global;
@@ -57,15 +57,15 @@ fn load_class<F: Files>(
     };
     match read_main(alloc, bytes.as_slice(), item.class, manifest.main) {
         Ok(body) => Ok(body),
-        Err(ClassError::Truncated { at }) => Err(Stop::Refused {
+        Err(FormError::Truncated { at }) => Err(Stop::Refused {
             item: 1,
             cause: Cause::Truncated { at },
         }),
-        Err(ClassError::Later) => Err(Stop::Refused {
+        Err(FormError::Later) => Err(Stop::Refused {
             item: 1,
             cause: Cause::Later,
         }),
-        Err(ClassError::NoMemory) => Err(Stop::NoMemory),
+        Err(FormError::NoMemory) => Err(Stop::NoMemory),
     }
 }
 

@@ -1,0 +1,30 @@
+#!/usr/bin/env bash
+# Reads and writes every class file of the folders and jars that are given, and counts those that come
+# back as the same bytes. Files of another major version than 51 and 52 are refused as such.
+set -u
+here=$(cd "$(dirname "$0")" && pwd)
+program=$here/../crates/class_bench/out/class_bench
+[ -x "$program" ] || { echo "round_trip: crates/class_bench isn't built yet: rt ci, or rt run there" >&2; exit 1; }
+folder=$(mktemp -d)
+trap 'rm -rf "$folder"' EXIT
+same=0 version=0 failed=0
+while IFS= read -r -d '' file; do
+  size=$(stat -c %s "$file")
+  case $("$program" "$file" 1) in
+    *": the same $size bytes") same=$((same + 1)) ;;
+    *": Read(Version "*) version=$((version + 1)) ;;
+    *) failed=$((failed + 1)); echo "not the same: $file" ;;
+  esac
+done < <(
+  for place in "$@"; do
+    if [ -d "$place" ]; then
+      find "$place" -name '*.class' -print0
+    else
+      into=$folder/$(basename "$place")
+      mkdir -p "$into" && unzip -qo "$place" '*.class' -d "$into" 2> /dev/null
+      find "$into" -name '*.class' -print0
+    fi
+  done
+)
+echo "$same the same, $version of another version, $failed not the same"
+[ "$failed" -eq 0 ]

@@ -1,0 +1,22 @@
+use Rattle.std.proofs.Common.{◌≡◌, subst, sym}
+use Rattle.jv_types.specs.ClassData.{class_data_of}
+use Rattle.jv_model.specs.Profile.{SpellsClass}
+use Rattle.class_reader.proofs.Laws.ClassFile.{one_spelling}
+use Rattle.class_round_trip.proofs.Errors.{too_long_or_memory}
+use Rattle.class_round_trip.proofs.round_trip.read_again.Goals as goal
+use Rattle.class_round_trip.proofs.round_trip.read_again.Goals.{After-read_class}
+
+-- the bytes that are read are those that were written
+written : (c : After-read_class) → SpellsClass c.as_slice.result.now (class_data_of c.args.file.now)
+written c = subst (λ bytes. SpellsClass bytes (class_data_of c.args.file.now)) (sym c.as_slice.ensures) (c.in-Ok.ensures.spelled c.requires)
+
+pub returns-in-Ok-read_class-clause-same : goal.returns-in-Ok-read_class-clause-same
+returns-in-Ok-read_class-clause-same c =
+    one_spelling c.as_slice.result.now (class_data_of c.in-Ok-read_class.again) (class_data_of c.args.file.now) c.in-Ok-read_class.ensures.found
+    (written (goal.at.returns-in-Ok-read_class-clause-same c).After-read_class)
+
+pub returns-clause-error : goal.returns-clause-error
+returns-clause-error c =
+    let spells = written (goal.at.returns-clause-error c).After-read_class in
+    too_long_or_memory c.in-Err-read_class.error c.as_slice.result.now (class_data_of c.args.file.now) spells
+    (c.in-Err-read_class.ensures.only (class_data_of c.args.file.now) spells)

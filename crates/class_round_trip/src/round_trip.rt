@@ -1,0 +1,48 @@
+//! The two round trips.
+
+ghost use Rattle.std.specs.Prelude.{◌≡◌, IfOk, IfErr};
+ghost use Rattle.jv_model.specs.Profile.{IsClassFile};
+ghost use Rattle.jv_types.specs.ClassData.{class_data_of};
+ghost use Rattle.class_round_trip.specs.RoundTrip.{IsUnread, IsUnwritten};
+
+use crate::error::RoundTripError;
+use class_reader::read_class;
+use class_writer::write_class;
+use jv_types::{Bytes, ClassData};
+use std::alloc::Global;
+
+/// The bytes that are written of what a class file says (JVMS 4.1), which are its own.
+///
+/// The error is that of reading it. What was read has no list that is too long, so of writing only
+/// want of memory is left.
+pub fn written_again(alloc: Global, bytes: &[u8]) -> Result<Bytes, RoundTripError>
+    ensures same { IfOk result (λ again. again.items ≡ bytes.now) }
+    ensures error { IfErr result (λ error. IsUnread error bytes.now) }
+{
+    let file = match read_class(alloc, bytes) {
+        Ok(file) => file,
+        Err(error) => return Err(RoundTripError::Read(error)),
+    };
+    match write_class(alloc, &file) {
+        Ok(again) => Ok(again),
+        Err(error) => Err(RoundTripError::Write(error)),
+    }
+}
+
+/// The data that are read of what is written of a class file's data, which are the same.
+///
+/// The error is that of writing them, or that the bytes are more than a class file may have.
+pub fn read_again(alloc: Global, file: &ClassData) -> Result<ClassData, RoundTripError>
+    requires { IsClassFile (class_data_of file.now) }
+    ensures same { IfOk result (λ again. class_data_of again ≡ class_data_of file.now) }
+    ensures error { IfErr result (λ error. IsUnwritten error (class_data_of file.now)) }
+{
+    let bytes = match write_class(alloc, file) {
+        Ok(bytes) => bytes,
+        Err(error) => return Err(RoundTripError::Write(error)),
+    };
+    match read_class(alloc, bytes.as_slice()) {
+        Ok(again) => Ok(again),
+        Err(error) => Err(RoundTripError::Read(error)),
+    }
+}
