@@ -5,26 +5,45 @@ import struct
 import sys
 
 ENTRIES = 65_534
+MEMBERS = 1_000
 LIMIT = 1_048_576
 
 
+def u2(*numbers):
+    return b"".join(struct.pack(">H", number) for number in numbers)
+
+
 def utf8(text):
-    return b"\x01" + struct.pack(">H", len(text)) + text
+    return b"\x01" + u2(len(text)) + text
+
+
+def attribute(name, contents):
+    return u2(name) + struct.pack(">I", len(contents)) + contents
 
 
 def main():
-    pool = [utf8(b"Large"), b"\x07\x00\x01", utf8(b"java/lang/Object"), b"\x07\x00\x03"]
+    pool = [
+        utf8(b"Large"), b"\x07" + u2(1), utf8(b"java/lang/Object"), b"\x07" + u2(3),
+        utf8(b"ConstantValue"), utf8(b"I"), b"\x03" + struct.pack(">i", -1), utf8(b"Code"), utf8(b"()V"),
+    ]
     # Half texts, half names of classes, so that what an entry names is looked at often.
     while len(pool) < ENTRIES:
         index = len(pool) + 1
-        if index % 2 == 1:
+        if index % 2 == 0:
             pool.append(utf8(b"name/of/a/class/%08d" % index))
         else:
-            pool.append(b"\x07" + struct.pack(">H", index - 1))
-    body = b"".join(pool)
-    head = struct.pack(">IHHH", 0xCAFEBABE, 0, 52, ENTRIES + 1)
-    tail = struct.pack(">HHHHHHH", 33, 2, 4, 0, 0, 0, 0)
-    whole = head + body + tail
+            pool.append(b"\x07" + u2(index - 1))
+    names = range(10, 10 + 2 * MEMBERS, 2)
+    value = attribute(5, u2(7))
+    # `return`, without handlers and attributes
+    code = attribute(8, u2(0, 1) + struct.pack(">I", 1) + b"\xb1" + u2(0, 0))
+    fields = [u2(8, name, 6, 1) + value for name in names]
+    methods = [u2(8, name, 9, 1) + code for name in names]
+    whole = b"".join([
+        struct.pack(">IHHH", 0xCAFEBABE, 0, 52, ENTRIES + 1), *pool,
+        u2(33, 2, 4, 1, 11),
+        u2(len(fields)), *fields, u2(len(methods)), *methods, u2(0),
+    ])
     assert len(whole) <= LIMIT, len(whole)
     with open(sys.argv[1], "wb") as file:
         file.write(whole)

@@ -11,8 +11,8 @@ use std::alloc::Global;
 use std::process::ExitCode;
 use std::{env, io};
 
-/// The most bytes of a file that are read: one more than a class file has, so that a longer one is
-/// refused as such.
+/// The most bytes that a class file has. Of a longer one a byte more is read, so that it is refused as
+/// such.
 const MOST_FILE_BYTES: u64 = 1_048_576;
 
 /// Reads and writes the bytes so many times.

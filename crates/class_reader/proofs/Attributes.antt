@@ -5,7 +5,7 @@ use Rattle.jv_model.specs.Input.{Input}
 use Rattle.jv_model.specs.ClassData.{Const, Attr}
 use Rattle.jv_model.specs.ClassReading.{Owner, unless, owner_behind, missing_fault, attribute_at, attributes_at}
 use Rattle.class_reader.specs.Gives.{Refuses}
-use Rattle.class_reader.specs.InFront.{in_front}
+use Rattle.jv_model.specs.Input.{in_front}
 use Rattle.class_reader.proofs.Refusing.{Refuses-first}
 use Rattle.class_reader.proofs.InFront.{goes_on, is_refused, is_done}
 

@@ -13,7 +13,7 @@ use Rattle.jv_model.specs.ClassData.{Const, gap}
 use Rattle.jv_model.specs.Profile.{is_wide, names_right}
 use Rattle.jv_model.specs.ClassReading.{constant_at, entries_at, first_wrong}
 use Rattle.class_reader.specs.Gives.{Refuses}
-use Rattle.class_reader.specs.InFront.{in_front}
+use Rattle.jv_model.specs.Input.{in_front}
 use Rattle.class_reader.specs.Entries.{with_gap}
 use Rattle.class_reader.proofs.Refusing.{Refuses-first}
 use Rattle.class_reader.proofs.InFront.{goes_on}

@@ -4,7 +4,7 @@ use Rattle.std.proofs.lemmas.List.{append-nil}
 use Rattle.jv_model.specs.Refusal.{Cause}
 use Rattle.jv_model.specs.Input.{Input, ◌>>=◌}
 use Rattle.class_reader.specs.Gives.{Refuses}
-use Rattle.class_reader.specs.InFront.{in_front}
+use Rattle.jv_model.specs.Input.{in_front}
 use Rattle.class_reader.proofs.Refusing.{Refuses-first}
 
 -- two runs of items in front of the others are one run

@@ -3,7 +3,6 @@ pub mod Gives
 pub mod Input
 pub mod Constant
 pub mod Operands
-pub mod InFront
 pub mod Units
 pub mod Entries
 pub mod Owner

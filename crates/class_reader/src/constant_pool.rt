@@ -8,7 +8,7 @@ ghost use Rattle.jv_model.specs.ClassReading.{entries_at, first_wrong, pool_at, 
 ghost use Rattle.jv_types.specs.ClassData.{const_of, pool_of};
 ghost use Rattle.class_reader.specs.Entries.{is_of, with_gap};
 ghost use Rattle.class_reader.specs.Gives.{GivesClass};
-ghost use Rattle.class_reader.specs.InFront.{in_front};
+ghost use Rattle.jv_model.specs.Input.{in_front};
 
 use crate::constant::read_constant;
 use crate::error::ClassError;
@@ -19,7 +19,7 @@ use std::alloc::Global;
 use std::marker::Model;
 
 /// A kind of entry.
-#[derive(Clone, Copy, Debug, PartialEq, Eq)]
+#[derive(Clone, Copy)]
 pub enum Kind {
     Utf8,
     Integer,

@@ -31,7 +31,7 @@ pub fn written_again(alloc: Global, bytes: &[u8]) -> Result<Bytes, RoundTripErro
 
 /// The data that are read of what is written of a class file's data, which are the same.
 ///
-/// The error is that of writing them, or that the bytes are more than a class file may have.
+/// Only want of memory, or more bytes than a class file may have, keeps it from that.
 pub fn read_again(alloc: Global, file: &ClassData) -> Result<ClassData, RoundTripError>
     requires { IsClassFile (class_data_of file.now) }
     ensures same { IfOk result (λ again. class_data_of again ≡ class_data_of file.now) }

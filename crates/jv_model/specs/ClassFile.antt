@@ -3,6 +3,8 @@ use Rattle.std.specs.Prelude.{ℕ, List, Bool, ◌&&◌, ◌||◌, not, ◌==◌
 use Rattle.jv_model.specs.Limits.{most_file_bytes}
 use Rattle.jv_model.specs.Refusal.{Cause}
 use Rattle.jv_model.specs.Input.{Input, whole_of, ◌>>=◌, number_at, number_where, bytes_at, allowed}
+use Rattle.jv_model.specs.ClassBytes.{magic_number}
+use Rattle.jv_model.specs.Profile.{is_version}
 use Rattle.jv_model.specs.ConstantPool.{Constant, pool_at, text_at, class_name_at, is_text}
 use Rattle.jv_model.specs.Instruction.{Body}
 use Rattle.jv_model.specs.Code.{body_of}
@@ -10,9 +12,9 @@ use Rattle.jv_model.specs.Code.{body_of}
 -- CAFEBABE, any minor version, and one of the major versions of Java SE 7 and 8
 unfoldable pub version_at : Input → Result Input Cause
 version_at input = do
-  magic ← number_where 4 (λ n. n == 0xCAFEBABE) input
+  magic ← number_where 4 (λ n. n == magic_number) input
   minor ← number_at 2 magic.1
-  major ← number_where 2 (λ n. (n == 51) || (n == 52)) minor.1
+  major ← number_where 2 is_version minor.1
   Ok major.1
 
 abbrev pub begins_with : List ℕ → List ℕ → Bool

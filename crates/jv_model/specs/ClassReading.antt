@@ -1,10 +1,10 @@
 -- Reading a class file from its front (JVMS 4.1): what it says, or the first refusal and its place.
-use Rattle.std.specs.Prelude.{ℕ, zero, suc, ◌+◌, ◌-◌, List, [], ◌∷◌, ◌++◌, Bool, true, false, ◌&&◌, ◌||◌, not, if◌then◌else◌, ◌==◌, nat_le, Option, Some, None, Result, Ok, Err, length}
+use Rattle.std.specs.Prelude.{ℕ, zero, suc, ◌+◌, ◌-◌, List, [], ◌∷◌, Bool, true, false, ◌&&◌, ◌||◌, not, if◌then◌else◌, ◌==◌, nat_le, Option, Some, None, Result, Ok, Err, length}
 use Rattle.std.specs.Int.{w32, w64, cast_signed}
 use Rattle.byteorder.specs.Endian.{big_number}
 use Rattle.jv_model.specs.Limits.{most_file_bytes}
 use Rattle.jv_model.specs.Refusal.{Cause, wrong_magic, wrong_version, wrong_constant, wrong_text, wrong_attribute, extra_bytes, above_limit, whole_file}
-use Rattle.jv_model.specs.Input.{Input, whole_of, ◌>>=◌, number_at, bytes_at}
+use Rattle.jv_model.specs.Input.{Input, whole_of, ◌>>=◌, number_at, bytes_at, in_front}
 use Rattle.jv_model.specs.ClassData.{Const, gap, utf8, integer, float, long, double, class, string, fieldref, methodref, interface_methodref, name_and_type, method_handle, method_type, invoke_dynamic, Attr, Member, ClassData}
 use Rattle.jv_model.specs.ModifiedUtf8.{units_of}
 use Rattle.jv_model.specs.ClassBytes.{magic_number}
@@ -69,10 +69,6 @@ constant_at index is_last input = do
   tag ← number_at 1 input
   if is_last && ((tag.0 == 5) || (tag.0 == 6)) then Err (wrong_constant index) else tagged_at index tag.0 tag.1
 
--- these entries, and those that are read behind them
-abbrev pub in_front : List Const → Result (List Const × Input) Cause → Result (List Const × Input) Cause
-in_front front read = read >>= λ others. Ok (front ++ others.0, others.1)
-
 -- The entries from that index on, where so many indices are left.
 unfoldable pub entries_at : ℕ → ℕ → Input → Result (List Const × Input) Cause
 entries_at index zero input = Ok ([], input)
@@ -81,7 +77,7 @@ entries_at index (suc (suc left)) input =
     constant_at index false input >>= λ first. if is_wide first.0 then in_front (first.0 ∷ gap ∷ []) (entries_at (index + 2) left first.1)
     else in_front (first.0 ∷ []) (entries_at (index + 1) (suc left) first.1)
 
--- the index of the first entry, from that index on, that names entries of wrong kinds
+-- what is wrong with the first entry, from that index on, that names entries of wrong kinds
 abbrev pub first_wrong : ℕ → List Const → ℕ → List Const → Option Cause
 first_wrong major pool index [] = None
 first_wrong major pool index (constant ∷ others) =

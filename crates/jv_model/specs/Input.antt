@@ -1,5 +1,5 @@
 -- Reading a class file from its front (JVMS 4): an item is one number or one run of bytes.
-use Rattle.std.specs.Prelude.{ℕ, ◌+◌, List, Bool, true, false, if◌then◌else◌, nat_lt, Result, Ok, Err, length, take, drop}
+use Rattle.std.specs.Prelude.{ℕ, ◌+◌, List, ◌++◌, Bool, true, false, if◌then◌else◌, nat_lt, Result, Ok, Err, length, take, drop}
 use Rattle.jv_model.specs.Refusal.{Cause, truncated, later}
 use Rattle.byteorder.specs.Endian.{big_number}
 
@@ -44,3 +44,7 @@ number_where width test input = number_at width input >>= λ number. allowed (te
 abbrev pub inside_run : {A : Type 0} → Result A Cause → Result A Cause
 inside_run (Ok x) = Ok x
 inside_run (Err cause) = Err later
+
+-- these items, and those that are read behind them
+abbrev pub in_front : {A : Type 0} → List A → Result (List A × Input) Cause → Result (List A × Input) Cause
+in_front front read = read >>= λ others. Ok (front ++ others.0, others.1)

@@ -4,7 +4,7 @@ use Rattle.std.specs.Int.{w32, w64}
 use Rattle.std.specs.List.{AllByRecursion, list_all}
 use Rattle.byteorder.specs.Endian.{big_number}
 use Rattle.jv_model.specs.ClassData.{Const, gap, utf8, integer, float, long, double, class, string, fieldref, methodref, interface_methodref, name_and_type, method_handle, method_type, invoke_dynamic, Attr, Member, ClassData}
-use Rattle.jv_model.specs.ModifiedUtf8.{text_bytes}
+use Rattle.jv_model.specs.ModifiedUtf8.{text_bytes, SpellsText}
 use Rattle.jv_model.specs.ClassBytes.{class_bytes}
 
 -- ---- numbers
@@ -102,7 +102,7 @@ names_right major pool (invoke_dynamic method pair) = names pool is_name_and_typ
 -- the numbers and texts of an entry fit the file
 abbrev pub FitsConst : Const → Type 0
 FitsConst gap = Unit {0}
-FitsConst (utf8 units) = AllByRecursion IsU2 units × IsU2 (length (text_bytes units))
+FitsConst (utf8 units) = SpellsText (text_bytes units) units × IsU2 (length (text_bytes units))
 FitsConst (integer value) = FitsSigned w32 value
 FitsConst (float bits) = IsU4 bits
 FitsConst (long value) = FitsSigned w64 value

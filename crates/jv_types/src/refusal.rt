@@ -19,7 +19,7 @@ pub enum LineKind {
     Main,
 }
 
-/// What has a limit, or a count that can't be longer than two bytes say.
+/// What has a limit, or a list whose count has two bytes.
 #[derive(Clone, Copy, Debug, PartialEq, Eq)]
 pub enum What {
     /// The bytes of a file.

@@ -8,7 +8,7 @@ use Rattle.jv_model.specs.ClassBytes.{u2, u4, attribute_bytes}
 use Rattle.jv_model.specs.Profile.{is_utf8, IsAttr}
 use Rattle.jv_model.specs.ClassReading.{Owner, name_fault, length_fault, owner_behind, attribute_at, attributes_at}
 use Rattle.class_reader.proofs.Laws.Numbers.{IsBytes, all_bytes, Takes, Takes-none, Takes-then, Finds, Finds-none, bind_ok, ok_is, run_takes, run_again}
-use Rattle.class_reader.proofs.Laws.Readers.{Reader, u4_reader, Begins, Begins-split, found, Finds-from, again, goes_on, unless_ok, unless_then, unless_again}
+use Rattle.class_reader.proofs.Laws.Readers.{u4_reader, Begins, Begins-split, found, Finds-from, again, goes_on, unless_ok, unless_then, unless_again}
 use Rattle.class_reader.proofs.Laws.Tables.{TableReader}
 use Rattle.class_reader.proofs.Laws.Indices.{index_reader}
 use Rattle.class_reader.proofs.Laws.AttributeRules.{Allows, OwnerAllows, allows_one, no_faults, allows_more, allows_parts, allows_none, none_missing}
@@ -46,9 +46,6 @@ attribute_found pool owner attribute right input rest begins =
     let count = again _ _ _ u4_reader (length attribute.bytes) right.0.bytes.0 named.0 counted.0 counted.1 in
     let bytes = found (bytes_at (length attribute.bytes)) _ _ (run_again (length attribute.bytes) attribute.bytes refl) counted.0 rest counted.2 in
     goes_on _ _ _ _ name (goes_on _ _ _ _ (unless_again _ _ faults.0) (goes_on _ _ _ _ count (goes_on _ _ _ _ (unless_again _ _ faults.1) (goes_on _ _ _ _ bytes (unless_again _ _ faults.2)))))
-
-attribute_reader : (pool : List Const) (owner : Owner) → Reader (attribute_at pool owner) attribute_bytes (IsAllowed pool owner)
-attribute_reader pool owner = record { takes = attribute_takes pool owner; finds = λ attribute right. Finds-from _ _ _ (attribute_found pool owner attribute right) }
 
 -- ---- all of them
 

@@ -76,7 +76,8 @@ utf8_takes index input read e fits =
     let counted : Takes input (text_run run.0.0) run.0.1 = subst (λ (n : ℕ). Takes input (u2 n ++ run.0.0) run.0.1) (sym second.1) both in
     let whole : Takes input (text_run (text_bytes text.0)) run.0.1 = subst (λ (bytes : List ℕ). Takes input (text_run bytes) run.0.1) spells.spelled counted in
     let short : length (text_bytes text.0) < 2 ^ 16 = omega (arith, ap (λ (bytes : List ℕ). length bytes) spells.spelled, second.1, first.1) in
-    (text.0, (spells.units_fit, short), sym (ap (λ (r : Const × Input). r.0) text.2), subst (λ (r : Const × Input). Takes input (text_run (text_bytes text.0)) r.1) text.2 whole)
+    let is_spelled : SpellsText (text_bytes text.0) text.0 = record { units_fit = spells.units_fit; spelled = refl } in
+    (text.0, (is_spelled, short), sym (ap (λ (r : Const × Input). r.0) text.2), subst (λ (r : Const × Input). Takes input (text_run (text_bytes text.0)) r.1) text.2 whole)
 
 integer_made : (n : ℕ) → n < 256 ^ 4 → IsMade 3 (integer (cast_signed w32 n)) (big_bytes 4 n)
 integer_made n below = record { spelled = rw (of_z-to_z w32 n below) refl; fits = search rules; is_there = refl; wide = refl }
@@ -175,7 +176,7 @@ long_again value fits =
 utf8_again : (index : ℕ) (text : List ℕ) → FitsConst (utf8 text) → Finds (utf8_at index) (utf8 text) (text_run (text_bytes text))
 unfolding utf8_at
 utf8_again index text fits =
-    let spells : SpellsText (text_bytes text) text = record { units_fit = fits.0; spelled = refl } in
+    let spells : SpellsText (text_bytes text) text = fits.0 in
     Finds-then (number_at 2) (λ count rest. bytes_at count rest >>= λ bytes. text_read index (units_of bytes.0) bytes.1) (length (text_bytes text)) (utf8 text) (u2 (length (text_bytes text))) (text_bytes text)
     (number_again 2 (length (text_bytes text)) fits.1) (λ at more. rw (run_again (length (text_bytes text)) (text_bytes text) refl at more, text_again (text_bytes text) text spells) refl)
 

@@ -5,11 +5,11 @@ use Rattle.std.specs.List.{AllByRecursion, flat_map, list_all}
 use Rattle.std.proofs.lemmas.Bool.{and_parts, cases_lt, cases_Bool}
 use Rattle.std.proofs.lemmas.List.{append-nil, nil_from_length}
 use Rattle.jv_model.specs.Refusal.{Cause}
-use Rattle.jv_model.specs.Input.{Input, ◌>>=◌, number_at}
+use Rattle.jv_model.specs.Input.{Input, ◌>>=◌, number_at, in_front}
 use Rattle.jv_model.specs.ClassData.{Const, gap, long, double}
 use Rattle.jv_model.specs.ClassBytes.{u2, constant_bytes, table}
 use Rattle.jv_model.specs.Profile.{names_right, FitsConst, is_wide, is_gap, HasGaps, IsPool}
-use Rattle.jv_model.specs.ClassReading.{unless, constant_at, in_front, entries_at, first_wrong, pool_at}
+use Rattle.jv_model.specs.ClassReading.{unless, constant_at, entries_at, first_wrong, pool_at}
 use Rattle.class_reader.proofs.Laws.Readers.{unless_ok}
 use Rattle.class_reader.proofs.Laws.Numbers.{IsBytes, bind_ok, ok_is, Takes, Takes-none, Takes-then, Finds, Finds-none, Finds-then, Finds-map, number_takes, number_again}
 use Rattle.class_reader.proofs.Laws.Constants.{IsEntry, constant_takes, constant_again}

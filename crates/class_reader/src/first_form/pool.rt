@@ -6,7 +6,7 @@ ghost use Rattle.std.specs.Option.{option_copied};
 ghost use Rattle.jv_model.specs.ConstantPool.{gap, is_plain, utf8_at, constant_at, constants_at, pool_at, entry_at, text_at, class_name_at, integer_at_index, is_text, has_name_and_type, is_member, names_field, names_method, names_right, is_utf8_entry, is_class_entry, is_name_and_type_entry};
 ghost use Rattle.class_reader.specs.Constant.{constant_of, member_of};
 ghost use Rattle.class_reader.specs.Gives.{GivesForm};
-ghost use Rattle.class_reader.specs.InFront.{in_front};
+ghost use Rattle.jv_model.specs.Input.{in_front};
 
 use super::error::FormError;
 use crate::input::Input;

@@ -1,7 +1,7 @@
 use Rattle.std.proofs.Common.{◌≡◌, ◌-◌}
 use Rattle.jv_model.specs.ClassReading.{attributes_at}
 use Rattle.jv_types.specs.ClassData.{attrs_of}
-use Rattle.class_reader.specs.InFront.{in_front}
+use Rattle.jv_model.specs.Input.{in_front}
 use Rattle.class_reader.specs.Owner.{owner_of}
 use Rattle.class_reader.proofs.attribute.read_attributes.Given as goal
 

@@ -1,6 +1,6 @@
 use Rattle.std.proofs.Common.{◌≡◌, ◌-◌}
 use Rattle.jv_model.specs.ClassReading.{classes_at}
-use Rattle.class_reader.specs.InFront.{in_front}
+use Rattle.jv_model.specs.Input.{in_front}
 use Rattle.class_reader.proofs.class_file.read_classes.Given as goal
 
 -- the indices so far, and those that are still to be read

@@ -2,7 +2,7 @@ use Rattle.std.proofs.Common.{◌≡◌, ◌-◌, ◌∷◌, [], length}
 use Rattle.jv_model.specs.ClassData.{gap}
 use Rattle.jv_model.specs.ClassReading.{entries_at}
 use Rattle.jv_types.specs.ClassData.{pool_of}
-use Rattle.class_reader.specs.InFront.{in_front}
+use Rattle.jv_model.specs.Input.{in_front}
 use Rattle.class_reader.proofs.constant_pool.read_entries.Given as goal
 
 -- the entries so far, and those that are still to be read

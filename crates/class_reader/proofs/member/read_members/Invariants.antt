@@ -1,7 +1,7 @@
 use Rattle.std.proofs.Common.{◌≡◌, ◌-◌}
 use Rattle.jv_model.specs.ClassReading.{members_at}
 use Rattle.jv_types.specs.ClassData.{members_of}
-use Rattle.class_reader.specs.InFront.{in_front}
+use Rattle.jv_model.specs.Input.{in_front}
 use Rattle.class_reader.specs.MemberKind.{kind_of}
 use Rattle.class_reader.proofs.member.read_members.Given as goal
 

@@ -1,7 +1,7 @@
 use Rattle.std.proofs.Common.{◌≡◌, ◌-◌, ◌∷◌, [], map}
 use Rattle.jv_model.specs.ConstantPool.{gap, constants_at}
 use Rattle.class_reader.specs.Constant.{constant_of}
-use Rattle.class_reader.specs.InFront.{in_front}
+use Rattle.jv_model.specs.Input.{in_front}
 use Rattle.class_reader.proofs.first_form.pool.read_constants.Given as goal
 
 -- the entries so far, and those that are still to be read
