@@ -1,5 +1,5 @@
 -- The text that names a program: its main class and its class files.
-use Rattle.std.specs.Prelude.{ℕ, ◌+◌, List, [], ◌∷◌, ◌++◌, Bool, true, false, ◌&&◌, if◌then◌else◌, ◌==◌, Option, Some, None, Result, Ok, Err, option_to_list, flat_map, length, bytes_eq, codes, slice_get, unwrap_or}
+use Rattle.std.specs.Prelude.{ℕ, ◌+◌, List, [], ◌∷◌, ◌++◌, Bool, true, false, ◌&&◌, if◌then◌else◌, ◌==◌, Option, Some, None, Result, Ok, Err, option_to_list, flat_map, length, bytes_eq, codes, slice_get, unwrap_or, drop}
 use Rattle.std.specs.Str.{is_utf8}
 use Rattle.jv_model.specs.Limits.{most_classes}
 use Rattle.jv_model.specs.Lines.{Line, lines_of, words_of}
@@ -65,46 +65,43 @@ mains_of lines = flat_map (λ line. option_to_list (main_in (statement_of line))
 abbrev pub classes_of : List Line → List ClassItem
 classes_of lines = flat_map (λ line. option_to_list (class_in (statement_of line))) lines
 
--- The last line is where a main line that never came is told.
-abbrev pub missing_main : List (List ℕ) → Bool → Option LineKind
-missing_main [] true = Some wrong_main
-missing_main [] false = None
-missing_main (class ∷ mains) is_last = None
-
 -- what is wrong with a statement, behind those that name these main classes and these class files
-abbrev pub statement_fault : List (List ℕ) → List ClassItem → Statement → Bool → Option LineKind
-statement_fault mains classes (faulty kind) is_last = Some kind
-statement_fault mains classes (class_is item) is_last = if length classes == most_classes then Some too_many else missing_main mains is_last
-statement_fault mains classes (main_is class) is_last = if length mains == 0 then None else Some wrong_main
+abbrev pub statement_fault : List (List ℕ) → List ClassItem → Statement → Option LineKind
+statement_fault mains classes (faulty kind) = Some kind
+statement_fault mains classes (class_is item) = if length classes == most_classes then Some too_many else None
+statement_fault mains classes (main_is class) = if length mains == 0 then None else Some wrong_main
 
 -- what is wrong with a line that says a thing with that fault, where it is a text at all
 abbrev pub unless_not_text : Line → Option LineKind → Option LineKind
 unless_not_text line fault = if line.is_ended && is_utf8 line.bytes then fault else Some not_text
 
 -- the first line is `jvolve 1`
-abbrev pub first_line_fault : Line → Bool → Option LineKind
-first_line_fault line is_last =
-    unless_not_text line (if bytes_eq line.bytes (codes "jvolve 1") then missing_main [] is_last else Some wrong_head)
+abbrev pub first_line_fault : Line → Option LineKind
+first_line_fault line = unless_not_text line (if bytes_eq line.bytes (codes "jvolve 1") then None else Some wrong_head)
 
 -- each other one makes a statement
-abbrev pub later_line_fault : List (List ℕ) → List ClassItem → Line → Bool → Option LineKind
-later_line_fault mains classes line is_last = unless_not_text line (statement_fault mains classes (statement_of line) is_last)
+abbrev pub later_line_fault : List (List ℕ) → List ClassItem → Line → Option LineKind
+later_line_fault mains classes line = unless_not_text line (statement_fault mains classes (statement_of line))
 
 -- what is wrong with a line, behind the lines before it
-abbrev pub line_fault : List Line → Line → Bool → Option LineKind
-line_fault [] line is_last = first_line_fault line is_last
-line_fault (head ∷ before) line is_last = later_line_fault (mains_of before) (classes_of before) line is_last
+abbrev pub line_fault : List Line → Line → Option LineKind
+line_fault [] line = first_line_fault line
+line_fault (head ∷ before) line = later_line_fault (mains_of before) (classes_of before) line
 
 -- the fault of the line with this number, or where it has none, that of a later line
 abbrev pub fault_here_or_later : ℕ → Option LineKind → Option (ℕ × LineKind) → Option (ℕ × LineKind)
 fault_here_or_later number (Some kind) rest = Some (number, kind)
 fault_here_or_later number None rest = rest
 
--- the first line at which something is wrong, behind those lines before it: its number from 1, and what
+-- Where no line is wrong, and none of those behind the first names a main class, that is told at the last line.
+abbrev pub missing_main : ℕ → List (List ℕ) → Option (ℕ × LineKind)
+missing_main last [] = Some (last, wrong_main)
+missing_main last (class ∷ mains) = None
+
+-- The first line at which something is wrong, behind those lines before it: its number from 1, and what.
 abbrev pub first_fault : List Line → List Line → Option (ℕ × LineKind)
-first_fault before [] = None
-first_fault before (line ∷ after) =
-    fault_here_or_later (length before + 1) (line_fault before line (length after == 0)) (first_fault (before ++ line ∷ []) after)
+first_fault before [] = missing_main (length before) (mains_of (drop 1 before))
+first_fault before (line ∷ after) = fault_here_or_later (length before + 1) (line_fault before line) (first_fault (before ++ line ∷ []) after)
 
 -- what the lines behind the first say together; where no line is faulty, one of them names the main class
 abbrev pub statements_together : List Line → Manifest

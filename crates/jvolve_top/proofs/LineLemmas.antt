@@ -1,10 +1,9 @@
 -- A text cut into lines.
-use Rattle.std.proofs.Common.{◌≡◌, ℕ, ◌<◌, ◌≤◌, Bool, true, false, not, cond, ltb, List, [], ◌∷◌, length, Some, None, position, ap, ◌∙◌, sym, refl, eqb, arith, inl, inr}
+use Rattle.std.proofs.Common.{◌≡◌, ℕ, ◌<◌, ◌≤◌, Bool, true, false, not, cond, ltb, List, [], ◌∷◌, length, Some, None, position, ap, ◌∙◌, sym, refl, eqb, arith}
 use Rattle.std.specs.List.{slice_split, position_or_len, before_first, after_first}
 use Rattle.std.proofs.lemmas.List.Sums.{prefix_len-le-length}
 use Rattle.std.proofs.lemmas.List.Splits.{slice_split_first}
-use Rattle.std.proofs.lemmas.List.{nil_from_length}
-use Rattle.std.proofs.lemmas.Bool.{ne_eqb, ltb-true, ltb-false, cases_lt}
+use Rattle.std.proofs.lemmas.Bool.{ne_eqb, ltb-true, ltb-false}
 use Rattle.jv_model.specs.Lines.{lines_from, lines_of}
 use Rattle.jvolve_top.proofs.SplitLemmas.{slice_split_some, slice_split_only}
 
@@ -48,18 +47,3 @@ pub no_place : (text : List ℕ) → None ≡ position (λ byte. eqb byte 10) te
 no_place text is =
     let far : length text ≤ position_or_len (λ byte. eqb byte 10) text = ltb-false _ _ (none_cases (ltb (position_or_len (λ byte. eqb byte 10) text) (length text)) (position_or_len (λ byte. eqb byte 10) text) is) in
     omega (arith, prefix_len-le-length (λ byte. not (eqb byte 10)) text)
-
-has_line : (text : List ℕ) → 0 < length text → length (lines_of text) ≡ 0 → ⊥
-has_line text some is =
-    elim (cases_lt (position_or_len (λ byte. eqb byte 10) text) (length text)) [
-      | inl has ↦ let line = ap length (lines_of_first text _ _ has refl refl) in omega arith
-      | inr lacks ↦ let line = ap length (lines_of_only text some (omega (arith, prefix_len-le-length (λ byte. not (eqb byte 10)) text))) in omega arith
-    ]
-
--- a text without a byte has no line, and any other has one
-pub lines_of_empty : (text : List ℕ) → eqb (length (lines_of text)) 0 ≡ eqb (length text) 0
-lines_of_empty text =
-    elim (cases_lt 0 (length text)) [
-      | inl some ↦ ne_eqb _ 0 (has_line text some) ∙ sym (ne_eqb _ 0 (λ is. omega arith))
-      | inr none ↦ rw (nil_from_length text (omega arith)) refl
-    ]

@@ -1,5 +1,5 @@
 -- Lines and statements as the definitions see them.
-use Rattle.std.specs.Prelude.{◌≡◌, ℕ, ◌+◌, ◌==◌, Result, Ok, Err, MatchResult, List, [], ◌∷◌, ◌++◌, Option, Some, None, option_map, option_to_list, length}
+use Rattle.std.specs.Prelude.{◌≡◌, ℕ, ◌+◌, Result, Ok, Err, MatchResult, List, [], ◌∷◌, ◌++◌, Option, Some, None, option_map, option_to_list}
 use Rattle.std.specs.Borrow.{Bor}
 use Rattle.jv_types.specs.Refusal.{line_kind_of}
 use Rattle.jvolve_top.specs.declared.line.Line.{Line}
@@ -49,9 +49,9 @@ manifest_view manifest = record { main = manifest.main.now; classes = class_list
 
 -- the first fault of lines behind so many lines, whose statements name these main classes and class files
 abbrev pub later_faults : ℕ → List (List ℕ) → List model.ClassItem → List lines.Line → Option (ℕ × LineKind)
-later_faults number mains classes [] = None
+later_faults number mains classes [] = model.missing_main number mains
 later_faults number mains classes (line ∷ after) =
-    model.fault_here_or_later (number + 1) (model.later_line_fault mains classes line (length after == 0))
+    model.fault_here_or_later (number + 1) (model.later_line_fault mains classes line)
     (later_faults (number + 1) (mains ++ option_to_list (model.main_in (model.statement_of line))) (classes ++ option_to_list (model.class_in (model.statement_of line))) after)
 
 -- Where the fault is none, the statements together with the next one; else that fault.

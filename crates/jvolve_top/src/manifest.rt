@@ -5,8 +5,8 @@ ghost use Rattle.std.specs.Str.{is_utf8};
 ghost use Rattle.jv_types.specs.Refusal.{line_kind_of};
 ghost use Rattle.jv_model.specs.Limits.{most_file_bytes};
 ghost use Rattle.jv_model.specs.Lines.{lines_of};
-ghost use Rattle.jv_model.specs.Manifest.{missing_main, statement_fault, first_line_fault, later_line_fault, unless_not_text, statement_of, manifest_of};
-ghost use Rattle.jvolve_top.specs.Statements.{line_view, said, main_list, class_list, mains, classes, GoesOn, AreRead, IsManifest};
+ghost use Rattle.jv_model.specs.Manifest.{statement_fault, first_line_fault, later_line_fault, unless_not_text, statement_of, manifest_of};
+ghost use Rattle.jvolve_top.specs.Statements.{line_view, said, class_list, mains, classes, GoesOn, AreRead, IsManifest};
 
 use crate::line::{Line, split_line};
 use crate::statement::{ClassItem, Statement, read_statement};
@@ -36,23 +36,12 @@ struct Statements<'a> {
     class: Option<ClassItem<'a>>,
 }
 
-/// The last line is where a main line that never came is told.
-fn missing_main(main: Option<&str>, is_last: bool) -> Option<LineKind>
-    ensures { option_map line_kind_of result ≡ missing_main (main_list main.entry) is_last }
-{
-    if main.is_none() && is_last {
-        return Some(LineKind::Main);
-    }
-    None
-}
-
 /// What the statements say together with the next one, or what is wrong with that one.
 fn next_statement<'a>(
     so_far: Statements<'a>,
     next: Statement<'a>,
-    is_last: bool,
 ) -> Result<Statements<'a>, LineKind>
-    ensures { GoesOn result so_far.entry (said next.entry) (statement_fault (mains so_far.entry) (classes so_far.entry) (said next.entry) is_last) }
+    ensures { GoesOn result so_far.entry (said next.entry) (statement_fault (mains so_far.entry) (classes so_far.entry) (said next.entry)) }
 {
     match next {
         Statement::Faulty(kind) => Err(kind),
@@ -65,13 +54,10 @@ fn next_statement<'a>(
         },
         Statement::Class(item) => match so_far.class {
             Some(_) => Err(LineKind::Many),
-            None => match missing_main(so_far.main, is_last) {
-                Some(kind) => Err(kind),
-                None => Ok(Statements {
-                    main: so_far.main,
-                    class: Some(item),
-                }),
-            },
+            None => Ok(Statements {
+                main: so_far.main,
+                class: Some(item),
+            }),
         },
     }
 }
@@ -91,33 +77,30 @@ fn text_of<'a>(line: &Line<'a>) -> Option<&'a str>
 }
 
 /// What is wrong with the first line.
-fn first_line_fault(line: &Line<'_>, is_last: bool) -> Option<LineKind>
-    ensures { option_map line_kind_of result ≡ first_line_fault (line_view line.now) is_last }
+fn first_line_fault(line: &Line<'_>) -> Option<LineKind>
+    ensures { option_map line_kind_of result ≡ first_line_fault (line_view line.now) }
 {
     let Some(text) = text_of(line) else {
         return Some(LineKind::Text);
     };
     if text == "jvolve 1" {
-        return missing_main(None, is_last);
+        return None;
     }
     Some(LineKind::Head)
 }
 
 /// What the statements say together with the next line's, or what is wrong with that line.
-fn next_line<'a>(
-    so_far: Statements<'a>,
-    line: &Line<'a>,
-    is_last: bool,
-) -> Result<Statements<'a>, LineKind>
-    ensures { GoesOn result so_far.entry (statement_of (line_view line.now)) (later_line_fault (mains so_far.entry) (classes so_far.entry) (line_view line.now) is_last) }
+fn next_line<'a>(so_far: Statements<'a>, line: &Line<'a>) -> Result<Statements<'a>, LineKind>
+    ensures { GoesOn result so_far.entry (statement_of (line_view line.now)) (later_line_fault (mains so_far.entry) (classes so_far.entry) (line_view line.now)) }
 {
     let Some(text) = text_of(line) else {
         return Err(LineKind::Text);
     };
-    next_statement(so_far, read_statement(text), is_last)
+    next_statement(so_far, read_statement(text))
 }
 
-/// What the lines behind the first say, or the first of them at which something is wrong.
+/// What the lines behind the first say, or the first line at which something is wrong. A main line
+/// that never came is told at the last one.
 fn read_lines(text: &[u8]) -> Result<Statements<'_>, LineFault>
     requires { length text.now ≤ most_file_bytes }
     ensures { AreRead result (lines_of text.now) }
@@ -131,11 +114,15 @@ fn read_lines(text: &[u8]) -> Result<Statements<'_>, LineFault>
     while !rest.is_empty() {
         let (line, after) = split_line(rest);
         number += 1;
-        so_far = match next_line(so_far, &line, after.is_empty()) {
+        so_far = match next_line(so_far, &line) {
             Ok(together) => together,
             Err(kind) => return Err(LineFault { line: number, kind }),
         };
         rest = after;
+    }
+    if so_far.main.is_none() {
+        let kind = LineKind::Main;
+        return Err(LineFault { line: number, kind });
     }
     Ok(so_far)
 }
@@ -161,7 +148,7 @@ pub(crate) fn read_manifest(text: &[u8]) -> Result<Manifest<'_>, LineFault>
         return Err(LineFault { line: 1, kind });
     }
     let (head, rest) = split_line(text);
-    match first_line_fault(&head, rest.is_empty()) {
+    match first_line_fault(&head) {
         Some(kind) => Err(LineFault { line: 1, kind }),
         None => match read_lines(rest) {
             Ok(statements) => Ok(together(statements)),

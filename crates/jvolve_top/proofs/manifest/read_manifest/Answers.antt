@@ -1,8 +1,7 @@
-use Rattle.std.proofs.Common.{◌≡◌, [], None, Ok, length, eqb, slice_get, unwrap_or, sym, ap, ◌∙◌}
+use Rattle.std.proofs.Common.{◌≡◌, [], None, Ok, slice_get, unwrap_or, sym, ap, ◌∙◌}
 use Rattle.jv_model.specs.Lines.{lines_of}
 use Rattle.jv_model.specs.Manifest.{first_line_fault, manifest_of_lines, manifest_unless, statements_together, mains_of, classes_of}
 use Rattle.jvolve_top.specs.Statements.{line_view, class_list}
-use Rattle.jvolve_top.proofs.LineLemmas.{lines_of_empty}
 use Rattle.jvolve_top.proofs.FaultLemmas.{first_line-passes, same_manifest}
 use Rattle.jvolve_top.proofs.manifest.read_manifest.Goals as goal
 use Rattle.jvolve_top.proofs.manifest.read_manifest.Goals.{In-None}
@@ -13,8 +12,7 @@ passes : (c : In-None) → manifest_of_lines (lines_of c.args.text.now)
 passes c =
     let head = line_view c.split_line.result.0 in
     let others = lines_of c.split_line.result.1.now in
-    let no_fault : first_line_fault head (eqb (length others) 0) ≡ None =
-    ap (first_line_fault head) (lines_of_empty c.split_line.result.1.now ∙ sym c.is_empty-2.ensures) ∙ sym c.in-None.ensures in
+    let no_fault : first_line_fault head ≡ None = sym c.in-None.ensures in
     ap manifest_of_lines c.split_line.ensures.line ∙ first_line-passes head others no_fault
 
 pub returns-in-Ok : goal.returns-in-Ok
