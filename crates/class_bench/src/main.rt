@@ -7,13 +7,10 @@
 
 use class_round_trip::{RoundTripError, written_again};
 use jv_outer::{DiskFiles, Files, ReadError};
+use jv_types::MOST_FILE_BYTES;
 use std::alloc::Global;
 use std::process::ExitCode;
 use std::{env, io};
-
-/// The most bytes that a class file has. Of a longer one a byte more is read, so that it is refused as
-/// such.
-const MOST_FILE_BYTES: u64 = 1_048_576;
 
 /// Reads and writes the bytes so many times.
 fn rounds(alloc: Global, bytes: &[u8], count: u32) -> Result<(), RoundTripError> {

@@ -12,9 +12,9 @@ ghost use Rattle.class_reader.specs.Gives.{GivesClass};
 use crate::attribute::{Owner, read_attributes};
 use crate::constant_pool::{Kind, Pool, read_index, read_pool};
 use crate::error::ClassError;
-use crate::input::{Input, MOST_FILE_BYTES};
+use crate::input::Input;
 use crate::member::{MemberKind, read_members};
-use jv_types::{Attr, ClassData, List, Member, What};
+use jv_types::{Attr, ClassData, List, MOST_FILE_BYTES, Member, What};
 use std::alloc::Global;
 
 /// What each class file begins with.
@@ -129,7 +129,7 @@ fn read_front(alloc: Global, input: &mut Input) -> Result<ClassData, ClassError>
 fn read_whole(alloc: Global, bytes: &[u8]) -> Result<ClassData, ClassError>
     ensures { GivesClass class_data_of result (class_of bytes.now) }
 {
-    if bytes.len() > MOST_FILE_BYTES {
+    if bytes.len() as u64 > MOST_FILE_BYTES {
         return Err(ClassError::Limit {
             what: What::File,
             n: bytes.len() as u64,

@@ -10,9 +10,6 @@ use crate::cut::Cut;
 use byteorder::{BigEndian, ByteOrder};
 use std::marker::Model;
 
-/// The most bytes that a class file has.
-pub const MOST_FILE_BYTES: usize = 1_048_576;
-
 /// The bytes that are still to be read, and the place of the first of them. Contracts see the
 /// definitions' own `Input`. After an error nothing is said of it.
 #[derive(Drop)]

@@ -1,6 +1,6 @@
 //! The plain data that every layer speaks of: lists with reserved room, operand stacks, texts, the
-//! arithmetic of ints, what class files say, the entries of a journal, why input is refused, and how
-//! a call ends.
+//! arithmetic of ints, what class files say, the entries of a journal, why input is refused, how a
+//! call ends, and a limit.
 //!
 //! It stands on `jv_model` alone. The contract above it is that the calls of `List` are those of a
 //! list, that `int_op` and `int_negate` compute what the definitions say over whole numbers, that a
@@ -13,6 +13,7 @@ pub mod class_data;
 mod duplicate;
 pub mod entry;
 pub mod int_operation;
+pub mod limits;
 pub mod list;
 pub mod memory;
 pub mod operand_stack;
@@ -23,6 +24,7 @@ pub mod text;
 pub use class_data::{Attr, ClassData, Const, Member};
 pub use entry::{Entry, ThreadNo};
 pub use int_operation::{IntOperation, int_negate, int_op};
+pub use limits::MOST_FILE_BYTES;
 pub use list::List;
 pub use memory::NoMemory;
 pub use operand_stack::OperandStack;

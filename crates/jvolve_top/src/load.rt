@@ -14,11 +14,8 @@ use crate::statement::ClassItem;
 use crate::words::Invocation;
 use class_reader::{Body, FormError, read_main};
 use jv_outer::{Files, ReadError};
-use jv_types::{Bytes, Cause, Status};
+use jv_types::{Bytes, Cause, MOST_FILE_BYTES, Status};
 use std::alloc::Global;
-
-/// The most bytes that a manifest or a class file has.
-const MOST_FILE_BYTES: u64 = 1_048_576;
 
 /// Why no program was loaded.
 #[derive(Clone, Copy)]

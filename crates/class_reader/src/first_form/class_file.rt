@@ -12,7 +12,8 @@ use super::error::FormError;
 use super::number::u2_of;
 use super::pool::{Pool, is_text};
 use crate::class_file::MAGIC;
-use crate::input::{Input, MOST_FILE_BYTES};
+use crate::input::Input;
+use jv_types::MOST_FILE_BYTES;
 use std::alloc::Global;
 
 /// The flags of a method that is public and static, and nothing else (JVMS 4.6).
@@ -129,7 +130,7 @@ pub fn read_main(alloc: Global, bytes: &[u8], class: &str, main: &str) -> Result
     // What is read is the one kind of code that it may be, so that who runs it needs no look of its own.
     ensures straight { IfOk result (λ body. IsStraightLine (body_of body)) }
 {
-    if bytes.len() > MOST_FILE_BYTES {
+    if bytes.len() as u64 > MOST_FILE_BYTES {
         return Err(FormError::Later);
     }
     let mut input = Input::whole_of(bytes);
