@@ -1,5 +1,5 @@
 -- What a class file says has no list that is too long for its count.
-use Rattle.std.proofs.Common.{◌≡◌, ℕ, ◌<◌, ◌^◌, cond, List, [], ◌∷◌, length, Option, None, refl, arith}
+use Rattle.std.proofs.Common.{◌≡◌, ℕ, ◌<◌, ◌^◌, List, [], ◌∷◌, length, Option, None, refl, arith}
 use Rattle.std.specs.List.{AllByRecursion}
 use Rattle.std.proofs.lemmas.Bool.{le-ltb}
 use Rattle.jv_model.specs.Refusal.{Limited, pool_entries, text_run_bytes, class_interfaces, class_fields, class_methods, attribute_list}

@@ -1,14 +1,13 @@
 -- Why reading or writing what the other gave may still fail.
-use Rattle.std.proofs.Common.{◌≡◌, ℕ, ◌<◌, ◌≤◌, List, length, Option, None, Result, Ok, Err, refl, inl, inr, subst}
+use Rattle.std.proofs.Common.{◌≡◌, ℕ, ◌<◌, ◌≤◌, List, length, Option, None, Ok, Err, refl, inl, inr, subst}
 use Rattle.std.specs.Prelude.{◌⊎◌}
 use Rattle.std.proofs.lemmas.Bool.{cases_lt}
-use Rattle.jv_types.specs.declared.class_data.ClassData.{ClassData as Here}
 use Rattle.jv_types.specs.ClassData.{class_data_of}
 use Rattle.jv_model.specs.Limits.{most_file_bytes}
 use Rattle.jv_model.specs.Refusal.{Limited}
 use Rattle.jv_model.specs.ClassData.{ClassData}
 use Rattle.jv_model.specs.ClassBytes.{class_bytes}
-use Rattle.jv_model.specs.Profile.{IsClassFile, SpellsClass}
+use Rattle.jv_model.specs.Profile.{SpellsClass}
 use Rattle.class_reader.specs.declared.error.ClassError.{ClassError}
 use Rattle.class_reader.specs.declared.error.ClassError.TheVariants as reading
 use Rattle.class_reader.specs.Gives.{GivesClass}

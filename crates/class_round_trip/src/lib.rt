@@ -2,7 +2,7 @@
 //!
 //! It stands on `class_reader` and `class_writer`. The contract above it is that each undoes the
 //! other: what is written of what was read is the same bytes, and what is read of what was written
-//! is the same data.
+//! of a class file's data is the same data.
 #![tactic(auto)]
 
 mod error;

@@ -3,7 +3,7 @@
 ghost use Rattle.std.specs.Prelude.{◌≡◌, IfOk, IfErr};
 ghost use Rattle.jv_model.specs.Profile.{IsClassFile};
 ghost use Rattle.jv_types.specs.ClassData.{class_data_of};
-ghost use Rattle.class_round_trip.specs.RoundTrip.{IsUnread, IsUnwritten};
+ghost use Rattle.class_round_trip.specs.RoundTrip.{IsUnread, IsUnwritten, IsStarvedOrLong};
 
 use crate::error::RoundTripError;
 use class_reader::read_class;
@@ -29,13 +29,15 @@ pub fn written_again(alloc: Global, bytes: &[u8]) -> Result<Bytes, RoundTripErro
     }
 }
 
-/// The data that are read of what is written of a class file's data, which are the same.
+/// The data that are read of what is written of class data, which are the same where the data are
+/// those of a class file.
 ///
-/// Only want of memory, or more bytes than a class file may have, keeps it from that.
+/// The error is that of writing the data, or of reading their bytes. Of a class file's data only want
+/// of memory, or more bytes than a class file may have, is an error.
 pub fn read_again(alloc: Global, file: &ClassData) -> Result<ClassData, RoundTripError>
-    requires { IsClassFile (class_data_of file.now) }
-    ensures same { IfOk result (λ again. class_data_of again ≡ class_data_of file.now) }
+    ensures same { IsClassFile (class_data_of file.now) → IfOk result (λ again. class_data_of again ≡ class_data_of file.now) }
     ensures error { IfErr result (λ error. IsUnwritten error (class_data_of file.now)) }
+    ensures only { IsClassFile (class_data_of file.now) → IfErr result (λ error. IsStarvedOrLong error (class_data_of file.now)) }
 {
     let bytes = match write_class(alloc, file) {
         Ok(bytes) => bytes,
