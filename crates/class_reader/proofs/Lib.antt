@@ -1,9 +1,6 @@
-pub mod Refusing
-pub mod InFront
-pub mod Counted
-pub mod Instructions
-pub mod Places
-pub mod Units
-pub mod Entries
-pub mod Attributes
-pub mod Laws
+-- `Loops` has the lemmas that loops cite: the items so far stand in front of those that are still
+-- to be read. The laws
+-- of class files, of the definitions alone, are those of the crate `class_laws`.
+pub mod Loops
+pub mod Head
+pub mod Clauses

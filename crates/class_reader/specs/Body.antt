@@ -5,7 +5,7 @@ use Rattle.class_reader.specs.declared.first_form.body.Instruction.{Instruction}
 use Rattle.class_reader.specs.declared.first_form.body.Instruction.TheVariants.{Constant, Arithmetic, Negate, Pop, GetOut, PrintLine, Return}
 use Rattle.class_reader.specs.declared.first_form.body.Placed.{Placed}
 use Rattle.class_reader.specs.declared.first_form.body.Body.{Body}
-use Rattle.jv_model.specs.Instruction as model
+use Rattle.straight_line_model.specs.Instruction as model
 
 abbrev pub instruction_of : Instruction → model.Instruction
 instruction_of (Constant value) = model.constant value
@@ -17,7 +17,15 @@ instruction_of PrintLine = model.print_line
 instruction_of Return = model.return
 
 abbrev pub placed_of : Placed → model.Placed
-placed_of placed = record { pc = placed.pc; next = placed.next; instruction = instruction_of placed.instruction }
+placed_of placed = record {
+  pc = placed.pc;
+  next = placed.next;
+  instruction = instruction_of placed.instruction;
+}
 
 abbrev pub body_of : Body → model.Body
-body_of body = record { max_stack = body.max_stack; max_locals = body.max_locals; instructions = map placed_of body.instructions.items }
+body_of body = record {
+  max_stack = body.max_stack;
+  max_locals = body.max_locals;
+  instructions = map placed_of body.instructions.items;
+}

@@ -2,7 +2,7 @@
 use Rattle.class_reader.specs.declared.first_form.pool.Constant.{Constant}
 use Rattle.class_reader.specs.declared.first_form.pool.Constant.TheVariants.{Gap, Utf8, Integer, Class, Fieldref, Methodref, NameAndType}
 use Rattle.class_reader.specs.declared.first_form.pool.Member.{Member}
-use Rattle.jv_model.specs.ConstantPool as model
+use Rattle.straight_line_model.specs.ConstantPool as model
 
 abbrev pub constant_of : Constant → model.Constant
 constant_of Gap = model.gap
@@ -14,4 +14,8 @@ constant_of (Methodref class name_and_type) = model.method_ref class name_and_ty
 constant_of (NameAndType name descriptor) = model.name_and_type name descriptor
 
 abbrev pub member_of : Member → model.Member
-member_of member = record { class = member.class.now; name = member.name.now; descriptor = member.descriptor.now }
+member_of member = record {
+  class = member.class.now;
+  name = member.name.now;
+  descriptor = member.descriptor.now;
+}

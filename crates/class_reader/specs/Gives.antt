@@ -1,29 +1,12 @@
 -- What an answer says about the reading of the definitions.
-use Rattle.std.specs.Prelude.{◌≡◌, Option, Some, None, Result, Ok, Err}
+use Rattle.std.specs.Prelude.{Option, Some, None, Result}
 use Rattle.jv_types.specs.Refusal.{limited_of}
-use Rattle.class_reader.specs.declared.cut.Cut.{Cut}
+use Rattle.jv_types.specs.Reading.{Gives}
 use Rattle.class_reader.specs.declared.error.ClassError.{ClassError}
 use Rattle.class_reader.specs.declared.error.ClassError.TheVariants as class_errors
 use Rattle.class_reader.specs.declared.first_form.error.FormError.{FormError}
 use Rattle.class_reader.specs.declared.first_form.error.FormError.TheVariants as form_errors
 use Rattle.jv_model.specs.Refusal.{Cause, truncated, wrong_magic, wrong_version, wrong_constant, wrong_text, wrong_attribute, extra_bytes, above_limit, later}
-
--- The refusal is what reading gives. Where an error is no refusal, as want of memory, it says nothing.
-abbrev pub Refuses : {Y : Type 0} → Option Cause → Result Y Cause → Type 0
-Refuses (Some cause) read = read ≡ Err cause
-Refuses None read = Unit {0}
-
--- An answer is what reading gives, its value seen by view, and its error by refusal_of.
-abbrev pub Gives : {E X Y : Type 0} → (E → Option Cause) → (X → Y) → Result X E → Result Y Cause → Type 0
-Gives refusal_of view (Ok x) read = read ≡ Ok (view x)
-Gives refusal_of view (Err error) read = Refuses (refusal_of error) read
-
--- one item
-abbrev pub cut_refusal : Cut → Option Cause
-cut_refusal cut = Some (truncated cut.at)
-
-abbrev pub GivesItem : {X Y : Type 0} → (X → Y) → Result X Cut → Result Y Cause → Type 0
-GivesItem view answer read = Gives cut_refusal view answer read
 
 -- a class file in its first form, or a part of one
 abbrev pub form_refusal : FormError → Option Cause
@@ -48,3 +31,8 @@ class_refusal class_errors.NoMemory = None
 
 abbrev pub GivesClass : {X Y : Type 0} → (X → Y) → Result X ClassError → Result Y Cause → Type 0
 GivesClass view answer read = Gives class_refusal view answer read
+
+-- the error is a refusal of the bytes, and not want of memory
+abbrev pub IsRefusal : ClassError → Type 0
+IsRefusal class_errors.NoMemory = ⊥
+IsRefusal other = Unit {0}

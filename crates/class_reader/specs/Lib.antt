@@ -1,6 +1,6 @@
 pub mod Body
 pub mod Gives
-pub mod Input
+pub mod Head
 pub mod Constant
 pub mod Operands
 pub mod Units

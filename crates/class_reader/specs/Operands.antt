@@ -2,7 +2,7 @@
 use Rattle.std.specs.Prelude.{◌≡◌, Bool, true, false, List, map, Option, Some, None}
 use Rattle.class_reader.specs.declared.first_form.operands.ValueType.{ValueType}
 use Rattle.class_reader.specs.declared.first_form.operands.ValueType.TheVariants.{Int, PrintStream}
-use Rattle.jv_model.specs.OperandStack as model
+use Rattle.straight_line_model.specs.OperandStack as model
 
 -- which type of the definitions a `ValueType` is
 abbrev pub type_of : ValueType → model.ValueType

@@ -1,20 +1,18 @@
 //! The attributes of a class, a field or a method (JVMS 4.7).
 
 ghost use Rattle.std.specs.Prelude.{◌≡◌, length, option_map, None};
-ghost use Rattle.jv_model.specs.ClassData.{Const};
 ghost use Rattle.jv_model.specs.Refusal.{wrong_attribute, wrong_constant};
-ghost use Rattle.jv_model.specs.Profile.{names, is_constant_of, units_at};
+ghost use Rattle.jv_model.specs.Profile.{value_tags};
 ghost use Rattle.jv_model.specs.ClassReading.{name_fault, length_fault, contents_fault, owner_behind, attribute_at, missing_fault, attributes_at};
 ghost use Rattle.jv_types.specs.ClassData.{attr_of, attrs_of};
 ghost use Rattle.class_reader.specs.Gives.{GivesClass};
-ghost use Rattle.class_reader.specs.Owner.{owner_of, IsRightCount, is_of_some};
+ghost use Rattle.class_reader.specs.Owner.{owner_of, IsRightCount};
 
-use crate::constant_pool::{Kind, Pool, read_index};
+use crate::constant_pool::{Pool, read_index};
 use crate::error::ClassError;
-use crate::input::Input;
 use crate::text::is_text;
 use byteorder::{BigEndian, ByteOrder};
-use jv_types::{Attr, List};
+use jv_types::{Attr, Input, List, tag};
 use std::alloc::Global;
 
 const CONSTANT_VALUE: &[u8] = b"ConstantValue";
@@ -31,9 +29,9 @@ pub enum Owner {
     Method { flags: u32, is_due: bool },
 }
 
-/// The kind of constant that a field with this descriptor may have (JVMS 4.7.2).
-fn value_kind(descriptor: &[u16]) -> Option<Kind>
-    ensures { (constant : Const) → is_of_some result constant ≡ is_constant_of descriptor.now constant }
+/// What a field with this descriptor may have as its constant (JVMS 4.7.2).
+fn value_tags(descriptor: &[u16]) -> &'static [u8]
+    ensures { result.now ≡ value_tags descriptor.now }
 {
     if is_text(descriptor, b"Z")
         || is_text(descriptor, b"B")
@@ -41,27 +39,17 @@ fn value_kind(descriptor: &[u16]) -> Option<Kind>
         || is_text(descriptor, b"S")
         || is_text(descriptor, b"I")
     {
-        Some(Kind::Integer)
+        &[tag::INTEGER]
     } else if is_text(descriptor, b"J") {
-        Some(Kind::Long)
+        &[tag::LONG]
     } else if is_text(descriptor, b"F") {
-        Some(Kind::Float)
+        &[tag::FLOAT]
     } else if is_text(descriptor, b"D") {
-        Some(Kind::Double)
+        &[tag::DOUBLE]
     } else if is_text(descriptor, b"Ljava/lang/String;") {
-        Some(Kind::String)
+        &[tag::STRING]
     } else {
-        None
-    }
-}
-
-/// Whether the entry at an index is a constant that a field with this descriptor may have.
-fn is_value(pool: &Pool, descriptor: u16, index: u16) -> bool
-    ensures { result ≡ names pool.now (is_constant_of (units_at pool.now descriptor)) index }
-{
-    match value_kind(pool.text(descriptor)) {
-        Some(kind) => pool.names(kind, index),
-        None => false,
+        &[]
     }
 }
 
@@ -84,7 +72,8 @@ fn name_fault(pool: &Pool, owner: Owner, name: u16, place: u32) -> Option<u32>
 
 /// The place of what is wrong with the attribute's length.
 fn length_fault(pool: &Pool, owner: Owner, name: u16, place: u32, count: u32) -> Option<u32>
-    ensures fault { option_map wrong_attribute result ≡ length_fault pool.now (owner_of owner) name place count }
+    ensures fault { option_map wrong_attribute result
+        ≡ length_fault pool.now (owner_of owner) name place count }
     ensures right { result ≡ None → IsRightCount pool.now (owner_of owner) name count }
 {
     match owner {
@@ -96,12 +85,13 @@ fn length_fault(pool: &Pool, owner: Owner, name: u16, place: u32, count: u32) ->
 /// The index of an entry of a wrong kind that the attribute's bytes name.
 fn contents_fault(pool: &Pool, owner: Owner, name: u16, bytes: &[u8]) -> Option<u16>
     requires { IsRightCount pool.now (owner_of owner) name (length bytes.now) }
-    ensures { option_map wrong_constant result ≡ contents_fault pool.now (owner_of owner) name bytes.now }
+    ensures { option_map wrong_constant result
+        ≡ contents_fault pool.now (owner_of owner) name bytes.now }
 {
     match owner {
         Owner::Field { descriptor, .. } if pool.is_named(CONSTANT_VALUE, name) => {
             let index = BigEndian::read_u16(bytes);
-            if is_value(pool, descriptor, index) {
+            if pool.names_one_of(value_tags(pool.text(descriptor)), index) {
                 None
             } else {
                 Some(index)
@@ -152,10 +142,11 @@ fn read_attribute(
     owner: Owner,
     input: &mut Input,
 ) -> Result<Attr, ClassError>
-    ensures { GivesClass (λ attribute. (attr_of attribute, input.new)) result (attribute_at pool.now (owner_of owner) input.old) }
+    ensures { GivesClass (λ attribute. (attr_of attribute, input.new)) result
+        (attribute_at pool.now (owner_of owner) input.old) }
 {
     let place = input.at();
-    let name = read_index(pool, Kind::Utf8, input)?;
+    let name = read_index(pool, tag::UTF8, input)?;
     if let Some(at) = name_fault(pool, owner, name, place) {
         return Err(ClassError::Attribute { at });
     }

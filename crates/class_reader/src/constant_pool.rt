@@ -1,56 +1,22 @@
 //! The constant pool of a class (JVMS 4.4).
 
-ghost use Rattle.std.specs.Prelude.{◌≡◌, ◌-◌, ◌∷◌, ◌++◌, [], OnOk, option_map};
-ghost use Rattle.jv_model.specs.Refusal.{wrong_constant};
+ghost use Rattle.std.specs.Prelude.{◌≡◌, ◌-◌, ◌∷◌, ◌++◌, [], Err, OnOk, IfErr, option_map};
+ghost use Rattle.jv_model.specs.Refusal.{Cause, wrong_constant};
 ghost use Rattle.jv_model.specs.ClassData.{gap};
-ghost use Rattle.jv_model.specs.Profile.{names, is_handled, is_wide, names_right, units_at, is_named};
+ghost use Rattle.jv_model.specs.ConstantPool.{tag_of, const_at, names, names_one_of, is_wide, units_at, is_named};
+ghost use Rattle.jv_model.specs.Profile.{handle_tags, names_right};
 ghost use Rattle.jv_model.specs.ClassReading.{entries_at, first_wrong, pool_at, index_at};
 ghost use Rattle.jv_types.specs.ClassData.{const_of, pool_of};
-ghost use Rattle.class_reader.specs.Entries.{is_of, with_gap};
-ghost use Rattle.class_reader.specs.Gives.{GivesClass};
-ghost use Rattle.jv_model.specs.Input.{in_front};
+ghost use Rattle.class_reader.specs.Entries.{with_gap};
+ghost use Rattle.class_reader.specs.Gives.{GivesClass, IsRefusal};
+ghost use Rattle.jv_model.specs.Input.{number_at, in_front};
 
 use crate::constant::read_constant;
 use crate::error::ClassError;
-use crate::input::Input;
 use crate::text::is_text;
-use jv_types::{Const, List, NoMemory};
+use jv_types::{Const, Input, List, NoMemory, tag};
 use std::alloc::Global;
 use std::marker::Model;
-
-/// A kind of entry.
-#[derive(Clone, Copy)]
-pub enum Kind {
-    Utf8,
-    Integer,
-    Float,
-    Long,
-    Double,
-    Class,
-    String,
-    Fieldref,
-    Methodref,
-    InterfaceMethodref,
-    NameAndType,
-}
-
-fn is_of(constant: &Const, kind: Kind) -> bool
-    ensures { result ≡ is_of kind (const_of constant.now) }
-{
-    match kind {
-        Kind::Utf8 => matches!(constant, Const::Utf8(_)),
-        Kind::Integer => matches!(constant, Const::Integer(_)),
-        Kind::Float => matches!(constant, Const::Float(_)),
-        Kind::Long => matches!(constant, Const::Long(_)),
-        Kind::Double => matches!(constant, Const::Double(_)),
-        Kind::Class => matches!(constant, Const::Class(_)),
-        Kind::String => matches!(constant, Const::String(_)),
-        Kind::Fieldref => matches!(constant, Const::Fieldref(..)),
-        Kind::Methodref => matches!(constant, Const::Methodref(..)),
-        Kind::InterfaceMethodref => matches!(constant, Const::InterfaceMethodref(..)),
-        Kind::NameAndType => matches!(constant, Const::NameAndType(..)),
-    }
-}
 
 /// Whether an entry takes two indices (JVMS 4.4.5).
 fn is_wide(constant: &Const) -> bool
@@ -59,9 +25,24 @@ fn is_wide(constant: &Const) -> bool
     matches!(constant, Const::Long(_) | Const::Double(_))
 }
 
+/// What a method handle of a kind may be of (JVMS 4.4.8).
+fn handle_tags(major: u16, kind: u8) -> &'static [u8]
+    ensures { result.now ≡ handle_tags major kind }
+{
+    match kind {
+        1..=4 => &[tag::FIELDREF],
+        5 | 8 => &[tag::METHODREF],
+        6 | 7 if major >= 52 => &[tag::METHODREF, tag::INTERFACE_METHODREF],
+        6 | 7 => &[tag::METHODREF],
+        9 => &[tag::INTERFACE_METHODREF],
+        _ => &[],
+    }
+}
+
 /// Adds an entry, and the gap behind it where it takes two indices.
 fn push_entry(entries: &mut List<Const>, constant: Const) -> Result<(), NoMemory>
-    ensures { OnOk result (pool_of entries.new.items ≡ pool_of entries.old.items ++ with_gap (const_of constant)) }
+    ensures { OnOk result (pool_of entries.new.items
+        ≡ pool_of entries.old.items ++ with_gap (const_of constant)) }
 {
     let has_gap = is_wide(&constant);
     entries.push(constant)?;
@@ -112,14 +93,29 @@ impl<'a> Pool<'a> {
         Pool { entries }
     }
 
-    /// Whether the entry at an index is of a kind.
-    pub fn names(&self, kind: Kind, index: u16) -> bool
-        ensures { result ≡ names self.now (is_of kind) index }
+    /// The tag of the entry at an index, or 0 where none is there.
+    fn tag(&self, index: u16) -> u8
+        ensures { result ≡ tag_of (const_at self.now index) }
     {
         match self.entries.as_slice().get(usize::from(index)) {
-            Some(constant) => is_of(constant, kind),
-            None => false,
+            Some(constant) => constant.tag(),
+            None => 0,
         }
+    }
+
+    /// Whether the entry at an index has this tag.
+    pub fn names(&self, tag: u8, index: u16) -> bool
+        ensures { result ≡ names self.now tag index }
+    {
+        self.tag(index) == tag
+    }
+
+    /// Whether it has one of these tags.
+    pub fn names_one_of(&self, tags: &[u8], index: u16) -> bool
+        ensures { result ≡ names_one_of self.now tags.now index }
+    {
+        let found = self.tag(index);
+        tags.iter().any(|tag| found == *tag)
     }
 
     /// The text at an index, or none where no Utf8 entry is there.
@@ -142,22 +138,6 @@ impl<'a> Pool<'a> {
         }
     }
 
-    /// Whether a method handle of a kind may be of the member at an index (JVMS 4.4.8).
-    fn names_handled(&self, major: u16, kind: u8, index: u16) -> bool
-        ensures { result ≡ names self.now (is_handled major kind) index }
-    {
-        match kind {
-            1..=4 => self.names(Kind::Fieldref, index),
-            5 | 8 => self.names(Kind::Methodref, index),
-            6 | 7 => {
-                self.names(Kind::Methodref, index)
-                    || major >= 52 && self.names(Kind::InterfaceMethodref, index)
-            }
-            9 => self.names(Kind::InterfaceMethodref, index),
-            _ => false,
-        }
-    }
-
     /// Whether an entry names entries of the kinds that it needs.
     fn names_right(&self, major: u16, constant: &Const) -> bool
         ensures { result ≡ names_right major self.now (const_of constant.now) }
@@ -170,18 +150,20 @@ impl<'a> Pool<'a> {
             | Const::Long(_)
             | Const::Double(_) => true,
             Const::Class(text) | Const::String(text) | Const::MethodType(text) => {
-                self.names(Kind::Utf8, text)
+                self.names(tag::UTF8, text)
             }
             Const::Fieldref(owner, pair)
             | Const::Methodref(owner, pair)
             | Const::InterfaceMethodref(owner, pair) => {
-                self.names(Kind::Class, owner) && self.names(Kind::NameAndType, pair)
+                self.names(tag::CLASS, owner) && self.names(tag::NAME_AND_TYPE, pair)
             }
             Const::NameAndType(name, descriptor) => {
-                self.names(Kind::Utf8, name) && self.names(Kind::Utf8, descriptor)
+                self.names(tag::UTF8, name) && self.names(tag::UTF8, descriptor)
             }
-            Const::MethodHandle(kind, member) => self.names_handled(major, kind, member),
-            Const::InvokeDynamic(_, pair) => self.names(Kind::NameAndType, pair),
+            Const::MethodHandle(kind, member) => {
+                self.names_one_of(handle_tags(major, kind), member)
+            },
+            Const::InvokeDynamic(_, pair) => self.names(tag::NAME_AND_TYPE, pair),
         }
     }
 
@@ -201,7 +183,9 @@ impl<'a> Pool<'a> {
 /// Reads the constant pool. What an entry names is looked at once all are read.
 #[tactic(auto, unfolding(jv_model::specs::ClassReading::pool_at))]
 pub fn read_pool(alloc: Global, major: u16, input: &mut Input) -> Result<List<Const>, ClassError>
-    ensures { GivesClass (λ entries. (pool_of entries.items, input.new)) result (pool_at major input.old) }
+    ensures pool { GivesClass (λ entries. (pool_of entries.items, input.new)) result
+        (pool_at major input.old) }
+    ensures early { (cause : Cause) → number_at 2 input.old ≡ Err cause → IfErr result IsRefusal }
 {
     let count = input.u2()?;
     let entries = read_entries(alloc, count, input)?;
@@ -211,13 +195,13 @@ pub fn read_pool(alloc: Global, major: u16, input: &mut Input) -> Result<List<Co
     }
 }
 
-/// Reads an index that names an entry of a kind.
+/// Reads an index that names an entry with this tag.
 #[tactic(auto, unfolding(jv_model::specs::ClassReading::index_at))]
-pub fn read_index(pool: &Pool, kind: Kind, input: &mut Input) -> Result<u16, ClassError>
-    ensures { GivesClass (λ index. (index, input.new)) result (index_at pool.now (is_of kind) input.old) }
+pub fn read_index(pool: &Pool, tag: u8, input: &mut Input) -> Result<u16, ClassError>
+    ensures { GivesClass (λ index. (index, input.new)) result (index_at pool.now tag input.old) }
 {
     let index = input.u2()?;
-    if !pool.names(kind, index) {
+    if !pool.names(tag, index) {
         return Err(ClassError::Pool {
             index: u32::from(index),
         });

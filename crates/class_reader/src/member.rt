@@ -9,10 +9,9 @@ ghost use Rattle.class_reader.specs.MemberKind.{kind_of};
 ghost use Rattle.class_reader.specs.Owner.{owner_of};
 
 use crate::attribute::{Owner, read_attributes};
-use crate::constant_pool::{Kind, Pool, read_index};
+use crate::constant_pool::{Pool, read_index};
 use crate::error::ClassError;
-use crate::input::Input;
-use jv_types::{List, Member};
+use jv_types::{Input, List, Member, tag};
 use std::alloc::Global;
 
 /// The flag of a native method (JVMS 4.6).
@@ -59,12 +58,13 @@ fn read_member(
     kind: MemberKind,
     input: &mut Input,
 ) -> Result<Member, ClassError>
-    ensures { GivesClass (λ member. (member_of member, input.new)) result (member_at pool.now (kind_of kind) input.old) }
+    ensures { GivesClass (λ member. (member_of member, input.new)) result
+        (member_at pool.now (kind_of kind) input.old) }
 {
     let place = input.at();
     let flags = input.u2()?;
-    let name = read_index(pool, Kind::Utf8, input)?;
-    let descriptor = read_index(pool, Kind::Utf8, input)?;
+    let name = read_index(pool, tag::UTF8, input)?;
+    let descriptor = read_index(pool, tag::UTF8, input)?;
     let count = input.u2()?;
     let owner = owner_of(kind, place, flags, descriptor);
     let attributes = read_attributes(alloc, pool, owner, count, input)?;

@@ -1,21 +1,10 @@
 use super::*;
+use class_samples::{ADD, FIELD, RETURN};
 use jv_types::{Const, IntOperation, What};
 use std::alloc::{AllocError, Global};
 use std::test::Fail;
 
-/// A class `Main` of Java SE 8, whose main method only returns.
-const MAIN: [u8; 122] =
-    *b"\xca\xfe\xba\xbe\0\0\0\x34\0\x08\x01\0\x04Main\x07\0\x01\x01\0\x10java/lang/Object\x07\0\x03\x01\0\x04main\x01\0\x16([Ljava/lang/String;)V\x01\0\x04Code\0\x21\0\x02\0\x04\0\0\0\0\0\x01\0\x09\0\x05\0\x06\0\x01\0\x07\0\0\0\x0d\0\0\0\x01\0\0\0\x01\xb1\0\0\0\0\0\0";
-
-/// A class `Main` of Java SE 8, whose main method prints 2147483647 + 1.
-const ADD: [u8; 251] =
-    *b"\xca\xfe\xba\xbe\0\0\04\0\x15\x01\0\x04Main\x07\0\x01\x01\0\x10java/lang/Object\x07\0\x03\x01\0\x04main\x01\0\x16([Ljava/lang/String;)V\x01\0\x04Code\x01\0\x10java/lang/System\x07\0\x08\x01\0\x03out\x01\0\x15Ljava/io/PrintStream;\x0c\0\x0a\0\x0b\x09\0\x09\0\x0c\x03\x7f\xff\xff\xff\x01\0\x13java/io/PrintStream\x07\0\x0f\x01\0\x07println\x01\0\x04(I)V\x0c\0\x11\0\x12\x0a\0\x10\0\x13\0!\0\x02\0\x04\0\0\0\0\0\x01\0\x09\0\x05\0\x06\0\x01\0\x07\0\0\0\x17\0\x03\0\x01\0\0\0\x0b\xb2\0\x0d\x12\x0e\x04`\xb6\0\x14\xb1\0\0\0\0\0\0";
-
-/// A class `A` with a field `A` of type long, whose constant value is 1.
-const FIELD: [u8; 76] =
-    *b"\xca\xfe\xba\xbe\0\0\0\x34\0\x07\x01\0\x01A\x07\0\x01\x01\0\x01J\x05\0\0\0\0\0\0\0\x01\x01\0\x0dConstantValue\0\x21\0\x02\0\x02\0\0\0\x01\0\0\0\x01\0\x03\0\x01\0\x06\0\0\0\x02\0\x04\0\0\0\0";
-
-/// That class with another code of as many bytes.
+/// `ADD` with another code of as many bytes.
 fn with_code(code: &[u8; 11]) -> [u8; 251] {
     let mut bytes = ADD;
     for (at, byte) in code.iter().enumerate() {
@@ -24,13 +13,22 @@ fn with_code(code: &[u8; 11]) -> [u8; 251] {
     bytes
 }
 
+/// As the page of this crate has it.
+#[test]
+fn how_to_call_it(rt: HostRuntime) {
+    match read_class(rt.alloc(), b"no class file") {
+        Ok(file) => assert!(rt; file.major == 52),
+        Err(error) => assert_eq!(rt; error, ClassError::Magic),
+    }
+}
+
 fn error_of(alloc: Global, bytes: &[u8]) -> Option<FormError> {
     read_main(alloc, bytes, "Main", "Main").err()
 }
 
 #[test]
 fn a_main_that_returns(rt: HostRuntime) -> Result<(), Fail> {
-    let body = read_main(rt.alloc(), &MAIN, "Main", "Main")?;
+    let body = read_main(rt.alloc(), &RETURN, "Main", "Main")?;
     assert_eq!(rt; body.max_stack, 0);
     assert_eq!(rt; body.max_locals, 1);
     let only = Placed {
@@ -45,7 +43,7 @@ fn a_main_that_returns(rt: HostRuntime) -> Result<(), Fail> {
 #[test]
 fn cut_files(rt: HostRuntime) {
     for (count, at) in [(0, 0), (1, 0), (2, 0), (3, 0), (9, 8), (121, 120)] {
-        let cut = &MAIN[..MAIN.len().min(count)];
+        let cut = &RETURN[..RETURN.len().min(count)];
         assert_eq!(rt;
             error_of(rt.alloc(), cut),
             Some(FormError::Truncated { at }),
@@ -58,7 +56,7 @@ fn cut_files(rt: HostRuntime) {
 fn changed_bytes(rt: HostRuntime) {
     // The major version, a byte of a text, the count of locals, and the opcode.
     for (at, byte) in [(7, 53), (13, 0), (110, 0), (115, 0)] {
-        let mut bytes = MAIN;
+        let mut bytes = RETURN;
         if at < bytes.len() {
             bytes[at] = byte;
         }
@@ -72,7 +70,7 @@ fn changed_bytes(rt: HostRuntime) {
 
 #[test]
 fn one_byte_more(rt: HostRuntime) -> Result<(), Fail> {
-    let mut bytes = MAIN.to_vec(rt.alloc())?;
+    let mut bytes = RETURN.to_vec(rt.alloc())?;
     bytes.push(0)?;
     assert_eq!(rt; error_of(rt.alloc(), &bytes), Some(FormError::Later));
     Ok(())
@@ -81,7 +79,7 @@ fn one_byte_more(rt: HostRuntime) -> Result<(), Fail> {
 #[test]
 fn other_classes(rt: HostRuntime) {
     for (class, main) in [("Other", "Other"), ("Main", "Other"), ("Other", "Main")] {
-        let read = read_main(rt.alloc(), &MAIN, class, main);
+        let read = read_main(rt.alloc(), &RETURN, class, main);
         assert_eq!(rt; read.err(), Some(FormError::Later), "{class} and {main}");
     }
 }
@@ -226,7 +224,7 @@ fn texts(rt: HostRuntime) -> Result<(), Fail> {
     ];
     for (text, units) in cases {
         let [a, b, c, d] = text;
-        let bytes = changed(rt.alloc(), &MAIN, &[(13, a), (14, b), (15, c), (16, d)])?;
+        let bytes = changed(rt.alloc(), &RETURN, &[(13, a), (14, b), (15, c), (16, d)])?;
         let file = read_class(rt.alloc(), &bytes)?;
         match file.pool.as_slice().get(1) {
             Some(Const::Utf8(found)) => assert_eq!(rt; found.as_slice(), units),
@@ -255,7 +253,7 @@ fn cut_classes(rt: HostRuntime) {
         (121, 120),
     ];
     for (count, at) in cases {
-        let cut = &MAIN[..MAIN.len().min(count)];
+        let cut = &RETURN[..RETURN.len().min(count)];
         assert_eq!(rt;
             refusal(rt.alloc(), cut),
             Some(ClassError::Truncated { at }),
@@ -302,7 +300,7 @@ fn refused_classes(rt: HostRuntime) -> Result<(), Fail> {
         (&[(93, 1)], ClassError::Attribute { at: 93 }),
     ];
     for (changes, error) in cases {
-        let bytes = changed(rt.alloc(), &MAIN, changes)?;
+        let bytes = changed(rt.alloc(), &RETURN, changes)?;
         assert_eq!(rt; refusal(rt.alloc(), &bytes), Some(error));
     }
     Ok(())
@@ -311,7 +309,8 @@ fn refused_classes(rt: HostRuntime) -> Result<(), Fail> {
 #[test]
 fn refused_fields(rt: HostRuntime) -> Result<(), Fail> {
     let cases: [(&[Change], ClassError); 5] = [
-        // A Long at the last index, and as the last entry, behind which the class has a wrong index.
+        // A Long at the last index, and as the last entry, behind which the class has a wrong
+        // index.
         (&[(9, 5)], ClassError::Pool { index: 4 }),
         (&[(9, 6)], ClassError::Pool { index: 0xd43 }),
         // The constant's length, and constants of a wrong kind.
@@ -339,7 +338,7 @@ fn with_two(alloc: Global, bytes: &[u8], count: usize, end: usize) -> Result<Vec
 
 #[test]
 fn attributes_that_come_twice(rt: HostRuntime) -> Result<(), Fail> {
-    let methods = with_two(rt.alloc(), &MAIN, 100, 120)?;
+    let methods = with_two(rt.alloc(), &RETURN, 100, 120)?;
     assert_eq!(rt;
         refusal(rt.alloc(), &methods),
         Some(ClassError::Attribute { at: 93 })
@@ -354,7 +353,7 @@ fn attributes_that_come_twice(rt: HostRuntime) -> Result<(), Fail> {
 
 #[test]
 fn files_that_are_too_long(rt: HostRuntime) -> Result<(), Fail> {
-    let mut bytes = MAIN.to_vec(rt.alloc())?;
+    let mut bytes = RETURN.to_vec(rt.alloc())?;
     bytes.push(0)?;
     assert_eq!(rt;
         refusal(rt.alloc(), &bytes),

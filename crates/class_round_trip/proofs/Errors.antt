@@ -1,27 +1,19 @@
 -- Why reading or writing what the other gave may still fail.
-use Rattle.std.proofs.Common.{◌≡◌, ℕ, ◌<◌, ◌≤◌, List, length, Option, None, Ok, Err, refl, inl, inr, subst}
+use Rattle.std.proofs.Common.{◌≡◌, ℕ, ◌<◌, ◌≤◌, List, length, Ok, Err, refl, inl, inr, subst}
 use Rattle.std.specs.Prelude.{◌⊎◌}
 use Rattle.std.proofs.lemmas.Bool.{cases_lt}
 use Rattle.jv_types.specs.ClassData.{class_data_of}
 use Rattle.jv_model.specs.Limits.{most_file_bytes}
-use Rattle.jv_model.specs.Refusal.{Limited}
 use Rattle.jv_model.specs.ClassData.{ClassData}
 use Rattle.jv_model.specs.ClassBytes.{class_bytes}
 use Rattle.jv_model.specs.Profile.{SpellsClass}
 use Rattle.class_reader.specs.declared.error.ClassError.{ClassError}
 use Rattle.class_reader.specs.declared.error.ClassError.TheVariants as reading
 use Rattle.class_reader.specs.Gives.{GivesClass}
-use Rattle.class_writer.specs.declared.error.WriteClassError.{WriteClassError}
-use Rattle.class_writer.specs.declared.error.WriteClassError.TheVariants as writing
-use Rattle.class_writer.specs.Written.{WriteFails}
-
--- where no list is too long, only memory can be wanted
-pub only_memory : (error : WriteClassError) (found : Option (Limited × ℕ)) → found ≡ None → WriteFails error found → error ≡ writing.NoMemory
-only_memory (writing.Limit what n) found none fails = absurd cc
-only_memory writing.NoMemory found none fails = refl
 
 -- what is spelled so is refused for want of memory alone
-unrefused : (error : ClassError) (file : ClassData) → GivesClass class_data_of (Err error) (Ok file) → error ≡ reading.NoMemory
+unrefused : (error : ClassError) (file : ClassData) → GivesClass class_data_of (Err error) (Ok file)
+    → error ≡ reading.NoMemory
 unrefused (reading.Truncated at) file gives = absurd cc
 unrefused reading.Magic file gives = absurd cc
 unrefused (reading.Version major) file gives = absurd cc
@@ -33,8 +25,10 @@ unrefused (reading.Limit what n) file gives = absurd cc
 unrefused reading.NoMemory file gives = refl
 
 -- Where written bytes aren't read, they are too many, or memory ran out.
-pub too_long_or_memory : (error : ClassError) (bytes : List ℕ) (file : ClassData) → SpellsClass bytes file
-    → ((length bytes ≤ most_file_bytes) → GivesClass class_data_of (Err error) (Ok file)) → (error ≡ reading.NoMemory) ⊎ (most_file_bytes < length (class_bytes file))
+pub too_long_or_memory : (error : ClassError) (bytes : List ℕ) (file : ClassData)
+    → SpellsClass bytes file
+    → ((length bytes ≤ most_file_bytes) → GivesClass class_data_of (Err error) (Ok file))
+    → (error ≡ reading.NoMemory) ⊎ (most_file_bytes < length (class_bytes file))
 too_long_or_memory error bytes file spells read =
     elim (cases_lt most_file_bytes (length bytes)) [
       | inl long ↦ inr (subst (λ (b : List ℕ). most_file_bytes < length b) spells.spelled long)

@@ -5,7 +5,8 @@ use Rattle.jv_model.specs.ClassData.{ClassData}
 use Rattle.jv_model.specs.ClassBytes.{class_bytes}
 use Rattle.jv_model.specs.ClassLimits.{first_limit}
 use Rattle.jv_model.specs.ClassReading.{class_of}
-use Rattle.class_reader.specs.Gives.{Refuses, class_refusal}
+use Rattle.jv_types.specs.Reading.{Refuses}
+use Rattle.class_reader.specs.Gives.{class_refusal}
 use Rattle.class_writer.specs.Written.{WriteFails}
 use Rattle.class_writer.specs.declared.error.WriteClassError.TheVariants as writing
 use Rattle.class_reader.specs.declared.error.ClassError.TheVariants as reading
@@ -25,4 +26,5 @@ IsUnwritten (Read error) file = Refuses (class_refusal error) (class_of (class_b
 -- memory ran out, or the bytes are more than a class file may have
 abbrev pub IsStarvedOrLong : RoundTripError → ClassData → Type 0
 IsStarvedOrLong (Write error) file = error ≡ writing.NoMemory
-IsStarvedOrLong (Read error) file = (error ≡ reading.NoMemory) ⊎ (most_file_bytes < length (class_bytes file))
+IsStarvedOrLong (Read error) file =
+    (error ≡ reading.NoMemory) ⊎ (most_file_bytes < length (class_bytes file))

@@ -1,7 +1,8 @@
 //! The two round trips.
 
 ghost use Rattle.std.specs.Prelude.{◌≡◌, IfOk, IfErr};
-ghost use Rattle.jv_model.specs.Profile.{IsClassFile};
+ghost use Rattle.jv_model.specs.ClassBytes.{class_bytes};
+ghost use Rattle.jv_model.specs.Profile.{IsClassFile, SpellsClass};
 ghost use Rattle.jv_types.specs.ClassData.{class_data_of};
 ghost use Rattle.class_round_trip.specs.RoundTrip.{IsUnread, IsUnwritten, IsStarvedOrLong};
 
@@ -19,32 +20,28 @@ pub fn written_again(alloc: Global, bytes: &[u8]) -> Result<Bytes, RoundTripErro
     ensures same { IfOk result (λ again. again.items ≡ bytes.now) }
     ensures error { IfErr result (λ error. IsUnread error bytes.now) }
 {
-    let file = match read_class(alloc, bytes) {
-        Ok(file) => file,
-        Err(error) => return Err(RoundTripError::Read(error)),
-    };
-    match write_class(alloc, &file) {
-        Ok(again) => Ok(again),
-        Err(error) => Err(RoundTripError::Write(error)),
-    }
+    let file = read_class(alloc, bytes)?;
+    let again = write_class(alloc, &file)?;
+    Ok(again)
 }
 
 /// The data that are read of what is written of class data, which are the same where the data are
 /// those of a class file.
 ///
-/// The error is that of writing the data, or of reading their bytes. Of a class file's data only want
-/// of memory, or more bytes than a class file may have, is an error.
+/// The error is that of writing the data, or of reading their bytes. Of a class file's data only
+/// want of memory, or more bytes than a class file may have, is an error.
 pub fn read_again(alloc: Global, file: &ClassData) -> Result<ClassData, RoundTripError>
-    ensures same { IsClassFile (class_data_of file.now) → IfOk result (λ again. class_data_of again ≡ class_data_of file.now) }
+    ensures same { IsClassFile (class_data_of file.now)
+        → IfOk result (λ again. class_data_of again ≡ class_data_of file.now) }
+
+    // Data of no class file are never answered: what is answered was read of the bytes.
+    ensures found { IfOk result (λ again.
+        SpellsClass (class_bytes (class_data_of file.now)) (class_data_of again)) }
     ensures error { IfErr result (λ error. IsUnwritten error (class_data_of file.now)) }
-    ensures only { IsClassFile (class_data_of file.now) → IfErr result (λ error. IsStarvedOrLong error (class_data_of file.now)) }
+    ensures only { IsClassFile (class_data_of file.now)
+        → IfErr result (λ error. IsStarvedOrLong error (class_data_of file.now)) }
 {
-    let bytes = match write_class(alloc, file) {
-        Ok(bytes) => bytes,
-        Err(error) => return Err(RoundTripError::Write(error)),
-    };
-    match read_class(alloc, bytes.as_slice()) {
-        Ok(again) => Ok(again),
-        Err(error) => Err(RoundTripError::Read(error)),
-    }
+    let bytes = write_class(alloc, file)?;
+    let again = read_class(alloc, bytes.as_slice())?;
+    Ok(again)
 }

@@ -33,7 +33,8 @@ impl Item for Attr {
 
 /// Writes the attributes of a class, a field or a method.
 pub fn write_attributes(out: &mut Output, attributes: &List<Attr>) -> Result<(), WriteClassError>
-    ensures { Appends result out.old out.new (table attribute_bytes (attrs_of attributes.now.items)) (over attribute_list (length (attrs_of attributes.now.items))) }
+    ensures { Appends result out.old out.new (table attribute_bytes (attrs_of attributes.now.items))
+        (over attribute_list (length (attrs_of attributes.now.items))) }
 {
     write_table(out, What::Attributes, attributes)
 }

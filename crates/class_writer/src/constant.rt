@@ -11,12 +11,13 @@ use crate::error::WriteClassError;
 use crate::output::Output;
 use crate::table::Item;
 use crate::text::write_text;
-use jv_types::{Const, Text};
+use jv_types::{Const, Text, tag};
 
 fn write_utf8(out: &mut Output, text: &Text) -> Result<(), WriteClassError>
-    ensures { Appends result out.old out.new (constant_bytes (utf8 text.now.items)) (constant_limit (utf8 text.now.items)) }
+    ensures { Appends result out.old out.new (constant_bytes (utf8 text.now.items))
+        (constant_limit (utf8 text.now.items)) }
 {
-    out.u1(1)?;
+    out.u1(tag::UTF8)?;
     write_text(out, text)
 }
 
@@ -60,7 +61,7 @@ fn write_pair(out: &mut Output, tag: u8, first: u16, second: u16) -> Result<(), 
 fn write_handle(out: &mut Output, kind: u8, member: u16) -> Result<(), WriteClassError>
     ensures { Appends result out.old out.new (u1 15 ++ (u1 kind ++ u2 member)) None }
 {
-    out.u1(15)?;
+    out.u1(tag::METHOD_HANDLE)?;
     out.u1(kind)?;
     out.u2(member)?;
     Ok(())
@@ -80,19 +81,34 @@ impl Item for Const {
         match self {
             Const::Gap => Ok(()),
             Const::Utf8(text) => write_utf8(out, text),
-            Const::Integer(value) => write_u4(out, 3, value.cast_unsigned()),
-            Const::Float(bits) => write_u4(out, 4, *bits),
-            Const::Long(value) => write_u8(out, 5, value.cast_unsigned()),
-            Const::Double(bits) => write_u8(out, 6, *bits),
-            Const::Class(name) => write_u2(out, 7, *name),
-            Const::String(text) => write_u2(out, 8, *text),
-            Const::Fieldref(owner, pair) => write_pair(out, 9, *owner, *pair),
-            Const::Methodref(owner, pair) => write_pair(out, 10, *owner, *pair),
-            Const::InterfaceMethodref(owner, pair) => write_pair(out, 11, *owner, *pair),
-            Const::NameAndType(name, descriptor) => write_pair(out, 12, *name, *descriptor),
+            Const::Integer(value) => write_u4(out, tag::INTEGER, value.cast_unsigned()),
+            Const::Float(bits) => write_u4(out, tag::FLOAT, *bits),
+            Const::Long(value) => write_u8(out, tag::LONG, value.cast_unsigned()),
+            Const::Double(bits) => write_u8(out, tag::DOUBLE, *bits),
+            Const::Class(name) => write_u2(out, tag::CLASS, *name),
+            Const::String(text) => write_u2(out, tag::STRING, *text),
+            Const::Fieldref(owner, pair) => write_pair(out, tag::FIELDREF, *owner, *pair),
+            Const::Methodref(owner, pair) => write_pair(out, tag::METHODREF, *owner, *pair),
+            Const::InterfaceMethodref(owner, pair) => write_pair(
+                out,
+                tag::INTERFACE_METHODREF,
+                *owner,
+                *pair,
+            ),
+            Const::NameAndType(name, descriptor) => write_pair(
+                out,
+                tag::NAME_AND_TYPE,
+                *name,
+                *descriptor,
+            ),
             Const::MethodHandle(kind, member) => write_handle(out, *kind, *member),
-            Const::MethodType(descriptor) => write_u2(out, 16, *descriptor),
-            Const::InvokeDynamic(method, pair) => write_pair(out, 18, *method, *pair),
+            Const::MethodType(descriptor) => write_u2(out, tag::METHOD_TYPE, *descriptor),
+            Const::InvokeDynamic(method, pair) => write_pair(
+                out,
+                tag::INVOKE_DYNAMIC,
+                *method,
+                *pair,
+            ),
         }
     }
 }

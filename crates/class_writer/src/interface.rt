@@ -28,7 +28,8 @@ impl Item for u16 {
 
 /// Writes the interfaces of a class.
 pub fn write_interfaces(out: &mut Output, interfaces: &List<u16>) -> Result<(), WriteClassError>
-    ensures { Appends result out.old out.new (table u2 interfaces.now.items) (over class_interfaces (length interfaces.now.items)) }
+    ensures { Appends result out.old out.new (table u2 interfaces.now.items)
+        (over class_interfaces (length interfaces.now.items)) }
 {
     write_table(out, What::Interfaces, interfaces)
 }

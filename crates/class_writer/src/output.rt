@@ -4,7 +4,7 @@ ghost use Rattle.std.specs.Prelude.{◌≡◌, ◌++◌, [], OnOk};
 ghost use Rattle.jv_model.specs.ClassBytes.{u1, u2, u4, u8};
 ghost use Rattle.jv_model.specs.ClassLimits.{over};
 ghost use Rattle.jv_types.specs.Refusal.{limited_of};
-ghost use Rattle.class_writer.specs.Written.{Appends};
+ghost use Rattle.class_writer.specs.Written.{Appends, IsCount};
 
 use crate::error::WriteClassError;
 use byteorder::{BigEndian, ByteOrder};
@@ -91,10 +91,18 @@ impl Output {
     pub fn count(&mut self, what: What, n: u64) -> Result<(), WriteClassError>
         ensures { Appends result self.old self.new (u2 n) (over (limited_of what) n) }
     {
-        if n > MOST_COUNTED {
-            return Err(WriteClassError::Limit { what, n });
-        }
-        self.u2(n as u16)?;
+        let count = count_of(what, n)?;
+        self.u2(count)?;
         Ok(())
     }
+}
+
+/// The number of items as a count of two bytes, unless they are too many for it.
+pub fn count_of(what: What, n: u64) -> Result<u16, WriteClassError>
+    ensures { IsCount result (limited_of what) n }
+{
+    if n > MOST_COUNTED {
+        return Err(WriteClassError::Limit { what, n });
+    }
+    Ok(n as u16)
 }

@@ -3,7 +3,7 @@
 ghost use Rattle.std.specs.Prelude.{map};
 ghost use Rattle.std.specs.List.{flat_map};
 ghost use Rattle.jv_model.specs.ClassBytes.{table};
-ghost use Rattle.jv_model.specs.ClassLimits.{first_of};
+ghost use Rattle.jv_model.specs.Partial.{first_of};
 ghost use Rattle.jv_types.specs.Refusal.{limited_of};
 ghost use Rattle.class_writer.specs.Written.{Appends, table_limit};
 
@@ -30,11 +30,13 @@ pub trait Item {
 
     /// Writes it, unless a list in it is too long.
     fn write(&self, out: &mut Output) -> Result<(), WriteClassError>
-        ensures { Appends result out.old out.new (spelling (meaning self.now)) (limit (meaning self.now)) };
+        ensures { Appends result out.old out.new (spelling (meaning self.now))
+            (limit (meaning self.now)) };
 }
 
 fn write_items<T: Item>(out: &mut Output, items: &[T]) -> Result<(), WriteClassError>
-    ensures { Appends result out.old out.new (flat_map T.spelling (map T.meaning items.now)) (first_of T.limit (map T.meaning items.now)) }
+    ensures { Appends result out.old out.new (flat_map T.spelling (map T.meaning items.now))
+        (first_of T.limit (map T.meaning items.now)) }
 {
     for item in items {
         item.write(out)?;
@@ -48,7 +50,8 @@ pub fn write_table<T: Item>(
     what: What,
     items: &List<T>,
 ) -> Result<(), WriteClassError>
-    ensures { Appends result out.old out.new (table T.spelling (map T.meaning items.now.items)) (table_limit (limited_of what) T.limit (map T.meaning items.now.items)) }
+    ensures { Appends result out.old out.new (table T.spelling (map T.meaning items.now.items))
+        (table_limit (limited_of what) T.limit (map T.meaning items.now.items)) }
 {
     let items = items.as_slice();
     out.count(what, items.len() as u64)?;

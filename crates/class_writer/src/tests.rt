@@ -31,6 +31,16 @@ fn error_of(alloc: Global, file: &ClassData) -> Option<WriteClassError> {
     write_class(alloc, file).err()
 }
 
+/// As the page of this crate has it.
+#[test]
+fn how_to_call_it(rt: HostRuntime) -> Result<(), Fail> {
+    let mut file = empty_class(rt.alloc());
+    file.interfaces.push(0x0102)?;
+    let bytes = write_class(rt.alloc(), &file)?;
+    assert_eq!(rt; bytes.len(), 26);
+    Ok(())
+}
+
 #[test]
 fn each_kind_of_constant(rt: HostRuntime) -> Result<(), Fail> {
     let mut file = empty_class(rt.alloc());

@@ -2,23 +2,15 @@
 use Rattle.std.specs.Prelude.{ℕ, zero, suc, ◌+◌, ◌-◌, List, [], ◌∷◌, Bool, true, false, ◌&&◌, ◌||◌, not, if◌then◌else◌, ◌==◌, nat_le, Option, Some, None, Result, Ok, Err, length}
 use Rattle.std.specs.Int.{w32, w64, cast_signed}
 use Rattle.byteorder.specs.Endian.{big_number}
+use Rattle.jv_model.specs.Fallible.{unless, where_true, ◌>>=◌}
 use Rattle.jv_model.specs.Limits.{most_file_bytes}
 use Rattle.jv_model.specs.Refusal.{Cause, wrong_magic, wrong_version, wrong_constant, wrong_text, wrong_attribute, extra_bytes, above_limit, whole_file}
-use Rattle.jv_model.specs.Input.{Input, whole_of, ◌>>=◌, number_at, bytes_at, in_front}
-use Rattle.jv_model.specs.ClassData.{Const, gap, utf8, integer, float, long, double, class, string, fieldref, methodref, interface_methodref, name_and_type, method_handle, method_type, invoke_dynamic, Attr, Member, ClassData}
 use Rattle.jv_model.specs.ModifiedUtf8.{units_of}
+use Rattle.jv_model.specs.ClassData.{Const, gap, utf8, integer, float, long, double, class, string, fieldref, methodref, interface_methodref, name_and_type, method_handle, method_type, invoke_dynamic, Attr, Member, ClassData}
 use Rattle.jv_model.specs.ClassBytes.{magic_number}
-use Rattle.jv_model.specs.Profile.{names, names_right, is_utf8, is_class, is_wide, is_named, is_constant_of, units_at, constant_value, code, has_code, is_version}
-
--- what was read, unless there is a fault
-abbrev pub unless : {A : Type 0} → Option Cause → A → Result A Cause
-unless None x = Ok x
-unless (Some fault) x = Err fault
-
--- what was read, where the test holds; else this fault
-abbrev pub where_true : {A : Type 0} → Bool → Cause → A → Result A Cause
-where_true true fault x = Ok x
-where_true false fault x = Err fault
+use Rattle.jv_model.specs.ConstantPool.{utf8_tag, integer_tag, float_tag, long_tag, double_tag, class_tag, string_tag, fieldref_tag, methodref_tag, interface_methodref_tag, name_and_type_tag, method_handle_tag, method_type_tag, invoke_dynamic_tag, is_wide, names, names_one_of, units_at, is_named}
+use Rattle.jv_model.specs.Profile.{names_right, value_tags, constant_value, code, has_code, is_version}
+use Rattle.jv_model.specs.Input.{Input, whole_of, number_at, bytes_at, in_front}
 
 -- ---- the constant pool (JVMS 4.4)
 
@@ -47,34 +39,35 @@ pair_at width make input = do
 -- an entry behind its tag, at that index
 abbrev pub tagged_at : ℕ → ℕ → Input → Result (Const × Input) Cause
 tagged_at index tag input =
-    if tag == 1 then utf8_at index input
-    else (if tag == 3 then single_at 4 (λ bits. integer (cast_signed w32 bits)) input
-    else (if tag == 4 then single_at 4 float input
-    else (if tag == 5 then single_at 8 (λ bits. long (cast_signed w64 bits)) input
-    else (if tag == 6 then single_at 8 double input
-    else (if tag == 7 then single_at 2 class input
-    else (if tag == 8 then single_at 2 string input
-    else (if tag == 9 then pair_at 2 fieldref input
-    else (if tag == 10 then pair_at 2 methodref input
-    else (if tag == 11 then pair_at 2 interface_methodref input
-    else (if tag == 12 then pair_at 2 name_and_type input
-    else (if tag == 15 then pair_at 1 method_handle input
-    else (if tag == 16 then single_at 2 method_type input
-    else (if tag == 18 then pair_at 2 invoke_dynamic input
-    else Err (wrong_constant index))))))))))))))
+    if tag == utf8_tag then utf8_at index input
+    else if tag == integer_tag then single_at 4 (λ bits. integer (cast_signed w32 bits)) input
+    else if tag == float_tag then single_at 4 float input
+    else if tag == long_tag then single_at 8 (λ bits. long (cast_signed w64 bits)) input
+    else if tag == double_tag then single_at 8 double input
+    else if tag == class_tag then single_at 2 class input
+    else if tag == string_tag then single_at 2 string input
+    else if tag == fieldref_tag then pair_at 2 fieldref input
+    else if tag == methodref_tag then pair_at 2 methodref input
+    else if tag == interface_methodref_tag then pair_at 2 interface_methodref input
+    else if tag == name_and_type_tag then pair_at 2 name_and_type input
+    else if tag == method_handle_tag then pair_at 1 method_handle input
+    else if tag == method_type_tag then single_at 2 method_type input
+    else if tag == invoke_dynamic_tag then pair_at 2 invoke_dynamic input
+    else Err (wrong_constant index)
 
 -- An entry at that index. The last index has no room for a Long or a Double.
 unfoldable pub constant_at : ℕ → Bool → Input → Result (Const × Input) Cause
 constant_at index is_last input = do
   tag ← number_at 1 input
-  if is_last && ((tag.0 == 5) || (tag.0 == 6)) then Err (wrong_constant index) else tagged_at index tag.0 tag.1
+  if is_last && ((tag.0 == long_tag) || (tag.0 == double_tag)) then Err (wrong_constant index) else tagged_at index tag.0 tag.1
 
 -- The entries from that index on, where so many indices are left.
 unfoldable pub entries_at : ℕ → ℕ → Input → Result (List Const × Input) Cause
 entries_at index zero input = Ok ([], input)
 entries_at index (suc zero) input = constant_at index true input >>= λ last. Ok (last.0 ∷ [], last.1)
 entries_at index (suc (suc left)) input =
-    constant_at index false input >>= λ first. if is_wide first.0 then in_front (first.0 ∷ gap ∷ []) (entries_at (index + 2) left first.1)
+    constant_at index false input >>= λ first.
+    if is_wide first.0 then in_front (first.0 ∷ gap ∷ []) (entries_at (index + 2) left first.1)
     else in_front (first.0 ∷ []) (entries_at (index + 1) (suc left) first.1)
 
 -- what is wrong with the first entry, from that index on, that names entries of wrong kinds
@@ -83,7 +76,8 @@ first_wrong major pool index [] = None
 first_wrong major pool index (constant ∷ others) =
     if names_right major pool constant then first_wrong major pool (index + 1) others else Some (wrong_constant index)
 
--- the count is one more than there are indices, of which the first is 1; what an entry names is looked at once all are read
+-- the count is one more than there are indices, of which the first is 1; what an entry names is looked at once all
+-- are read
 unfoldable pub pool_at : ℕ → Input → Result (List Const × Input) Cause
 pool_at major input = do
   count ← number_at 2 input
@@ -92,16 +86,16 @@ pool_at major input = do
 
 -- ---- indices of the pool
 
--- an index that names an entry of a kind
-unfoldable pub index_at : List Const → (Const → Bool) → Input → Result (ℕ × Input) Cause
-index_at pool kind input = do
+-- an index that names an entry with that tag
+unfoldable pub index_at : List Const → ℕ → Input → Result (ℕ × Input) Cause
+index_at pool tag input = do
   index ← number_at 2 input
-  where_true (names pool kind index.0) (wrong_constant index.0) index
+  where_true (names pool tag index.0) (wrong_constant index.0) index
 
 unfoldable pub classes_at : List Const → ℕ → Input → Result (List ℕ × Input) Cause
 classes_at pool zero input = Ok ([], input)
 classes_at pool (suc count) input = do
-  first ← index_at pool is_class input
+  first ← index_at pool class_tag input
   others ← classes_at pool count first.1
   Ok (first.0 ∷ others.0, others.1)
 
@@ -118,29 +112,35 @@ pub data Owner : Type 0 where
 -- what is wrong with an attribute of that name, which begins at that place
 abbrev pub name_fault : List Const → Owner → ℕ → ℕ → Option Cause
 name_fault pool the_class name place = None
-name_fault pool (the_field descriptor may_come) name place = if is_named pool constant_value name && not may_come then Some (wrong_attribute place) else None
-name_fault pool (the_method flags is_due) name place = if is_named pool code name && not is_due then Some (wrong_attribute flags) else None
+name_fault pool (the_field descriptor may_come) name place =
+    if is_named pool constant_value name && not may_come then Some (wrong_attribute place) else None
+name_fault pool (the_method flags is_due) name place =
+    if is_named pool code name && not is_due then Some (wrong_attribute flags) else None
 
 -- what is wrong with its length
 abbrev pub length_fault : List Const → Owner → ℕ → ℕ → ℕ → Option Cause
-length_fault pool (the_field descriptor may_come) name place count = if is_named pool constant_value name && not (count == 2) then Some (wrong_attribute place) else None
+length_fault pool (the_field descriptor may_come) name place count =
+    if is_named pool constant_value name && not (count == 2) then Some (wrong_attribute place) else None
 length_fault pool other name place count = None
 
 -- what is wrong with its bytes
 abbrev pub contents_fault : List Const → Owner → ℕ → List ℕ → Option Cause
 contents_fault pool (the_field descriptor may_come) name bytes =
-    if is_named pool constant_value name && not (names pool (is_constant_of (units_at pool descriptor)) (big_number 2 bytes)) then Some (wrong_constant (big_number 2 bytes)) else None
+    if is_named pool constant_value name
+    && not (names_one_of pool (value_tags (units_at pool descriptor)) (big_number 2 bytes))
+    then Some (wrong_constant (big_number 2 bytes)) else None
 contents_fault pool other name bytes = None
 
 -- the owner behind an attribute of that name
 abbrev pub owner_behind : List Const → Owner → ℕ → Owner
 owner_behind pool the_class name = the_class
-owner_behind pool (the_field descriptor may_come) name = the_field descriptor (may_come && not (is_named pool constant_value name))
+owner_behind pool (the_field descriptor may_come) name =
+    the_field descriptor (may_come && not (is_named pool constant_value name))
 owner_behind pool (the_method flags is_due) name = the_method flags (is_due && not (is_named pool code name))
 
 unfoldable pub attribute_at : List Const → Owner → Input → Result (Attr × Input) Cause
 attribute_at pool owner input = do
-  name ← index_at pool is_utf8 input
+  name ← index_at pool utf8_tag input
   named ← unless (name_fault pool owner name.0 input.at) name
   count ← number_at 4 named.1
   counted ← unless (length_fault pool owner name.0 input.at count.0) count
@@ -174,8 +174,8 @@ owner_of method place flags descriptor = the_method place (has_code flags)
 unfoldable pub member_at : List Const → MemberKind → Input → Result (Member × Input) Cause
 member_at pool kind input = do
   flags ← number_at 2 input
-  name ← index_at pool is_utf8 flags.1
-  descriptor ← index_at pool is_utf8 name.1
+  name ← index_at pool utf8_tag flags.1
+  descriptor ← index_at pool utf8_tag name.1
   count ← number_at 2 descriptor.1
   attributes ← attributes_at pool (owner_of kind input.at flags.0 descriptor.0) count.0 count.1
   Ok (record { flags = flags.0; name = name.0; descriptor = descriptor.0; attributes = attributes.0 }, attributes.1)
@@ -202,8 +202,8 @@ versions_at input = do
 unfoldable pub class_body_at : ℕ → ℕ → List Const → Input → Result (ClassData × Input) Cause
 class_body_at minor major pool input = do
   flags ← number_at 2 input
-  this ← index_at pool is_class flags.1
-  super ← index_at pool is_class this.1
+  this ← index_at pool class_tag flags.1
+  super ← index_at pool class_tag this.1
   interface_count ← number_at 2 super.1
   interfaces ← classes_at pool interface_count.0 interface_count.1
   field_count ← number_at 2 interfaces.1

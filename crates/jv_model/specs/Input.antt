@@ -1,7 +1,8 @@
 -- Reading a class file from its front (JVMS 4): an item is one number or one run of bytes.
-use Rattle.std.specs.Prelude.{ℕ, ◌+◌, List, ◌++◌, Bool, true, false, if◌then◌else◌, nat_lt, Result, Ok, Err, length, take, drop}
-use Rattle.jv_model.specs.Refusal.{Cause, truncated, later}
+use Rattle.std.specs.Prelude.{ℕ, ◌+◌, List, ◌++◌, if◌then◌else◌, nat_lt, Result, Ok, Err, length, take, drop}
 use Rattle.byteorder.specs.Endian.{big_number}
+use Rattle.jv_model.specs.Fallible.{◌>>=◌}
+use Rattle.jv_model.specs.Refusal.{Cause, truncated}
 
 -- The bytes that are still to be read, and the place of the first of them.
 pub record Input : Type 0 where
@@ -16,34 +17,17 @@ whole_of bytes = record { at = 0; bytes = bytes }
 abbrev pub behind : ℕ → Input → Input
 behind count input = record { at = input.at + count; bytes = drop count input.bytes }
 
--- The reading goes on behind an item, or ends at the first refusal.
-infixl 10 ◌>>=◌
-abbrev pub ◌>>=◌ : {A B : Type 0} → Result A Cause → (A → Result B Cause) → Result B Cause
-(Ok x) >>= f = f x
-(Err cause) >>= f = Err cause
-
 -- a run of so many bytes, and the input behind it
 abbrev pub bytes_at : ℕ → Input → Result (List ℕ × Input) Cause
-bytes_at count input = if nat_lt (length input.bytes) count then Err (truncated input.at) else Ok (take count input.bytes, behind count input)
+bytes_at count input =
+    if nat_lt (length input.bytes) count then Err (truncated input.at)
+    else Ok (take count input.bytes, behind count input)
 
 -- a number of so many bytes, the highest first, and the input behind it
 abbrev pub number_at : ℕ → Input → Result (ℕ × Input) Cause
 number_at width input =
-    if nat_lt (length input.bytes) width then Err (truncated input.at) else Ok (big_number width input.bytes, behind width input)
-
--- what was read, where the test holds of it; else it has a form that isn't built yet
-abbrev pub allowed : {A : Type 0} → Bool → A → Result A Cause
-allowed true x = Ok x
-allowed false x = Err later
-
--- a number that passes a test
-abbrev pub number_where : ℕ → (ℕ → Bool) → Input → Result (ℕ × Input) Cause
-number_where width test input = number_at width input >>= λ number. allowed (test number.0) number
-
--- what is wrong inside a run of bytes that is whole makes no item of the file cut
-abbrev pub inside_run : {A : Type 0} → Result A Cause → Result A Cause
-inside_run (Ok x) = Ok x
-inside_run (Err cause) = Err later
+    if nat_lt (length input.bytes) width then Err (truncated input.at)
+    else Ok (big_number width input.bytes, behind width input)
 
 -- these items, and those that are read behind them
 abbrev pub in_front : {A : Type 0} → List A → Result (List A × Input) Cause → Result (List A × Input) Cause

@@ -1,30 +1,31 @@
+-- words for what may fail, and how much there may be
+pub mod Partial
+pub mod Fallible
 pub mod Limits
 pub mod Refusal
-pub mod Status
-pub mod End
+-- texts
 pub mod Lines
-pub mod Manifest
-pub mod Input
-pub mod ConstantPool
-pub mod Partial
-pub mod IntOperation
-pub mod Instruction
-pub mod OperandStack
-pub mod StraightLine
-pub mod Code
-pub mod ClassFile
-pub mod Effect
-pub mod Machine
-pub mod Journal
-pub mod RoundRobin
-pub mod Invocation
-pub mod Load
-pub mod Faults
-pub mod Delivery
-pub mod Headline
-pub mod ClassData
 pub mod ModifiedUtf8
+pub mod Utf16
+-- class files
+pub mod ClassData
+pub mod ConstantPool
 pub mod ClassBytes
-pub mod Profile
-pub mod ClassReading
 pub mod ClassLimits
+pub mod Profile
+pub mod Input
+pub mod ClassReading
+-- code
+pub mod Descriptors
+pub mod Operand
+pub mod Instruction
+pub mod StackForms
+pub mod Flow
+pub mod Code
+pub mod LoadedClass
+-- runs and calls
+pub mod Journal
+pub mod Updates
+pub mod End
+pub mod Status
+pub mod Outside

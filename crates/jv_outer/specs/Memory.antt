@@ -1,12 +1,8 @@
 -- What contracts see of files and a sink in memory.
-use Rattle.std.specs.Prelude.{◌≡◌, ℕ, ◌+◌, ◌-◌, ◌^◌, ◌<◌, min, List, [], ◌∷◌, Option, Some, None, if◌then◌else◌, bytes_eq, Contains, length, ◌⊎◌}
+use Rattle.std.specs.Prelude.{◌≡◌, ℕ, ◌<◌, List, [], ◌∷◌, Option, Some, None, if◌then◌else◌, bytes_eq, Contains, length, ◌⊎◌}
 use Rattle.jv_types.specs.Sequence.{Sequence}
-use Rattle.jv_types.specs.Units.{units_of}
-use Rattle.jv_model.specs.Load.{Folder}
-
--- the count after one more call; it stands still at 2^64 - 1
-abbrev pub counted : ℕ → ℕ
-counted calls = min (calls + 1) (2 ^ 64 - 1)
+use Rattle.jv_model.specs.Utf16.{units_of_utf8}
+use Rattle.jv_model.specs.Outside.{Folder}
 
 -- A file's name in units of UTF-16, and its bytes.
 pub record MemoryFile : Type 0 where
@@ -20,7 +16,9 @@ pub record MemoryFiles : Type 0 where
   pub files : List MemoryFile
   -- the numbers of the reads that fail
   pub fails : List ℕ
-  -- how many reads there were
+  -- the names that were asked for, in order
+  pub asked : List (List ℕ)
+  -- how many reads there were, up to the most that are counted
   pub calls : ℕ
   -- how many of them failed
   pub faults : ℕ
@@ -28,10 +26,11 @@ pub record MemoryFiles : Type 0 where
 -- the bytes of the first file of that name
 abbrev pub file_with : List ℕ → List MemoryFile → Option (List ℕ)
 file_with name [] = None
-file_with name (file ∷ files) = if bytes_eq file.name name then Some file.bytes else file_with name files
+file_with name (file ∷ files) =
+    if bytes_eq file.name name then Some file.bytes else file_with name files
 
 abbrev pub folder_of : MemoryFiles → Folder
-folder_of memory name = file_with (units_of name) memory.files
+folder_of memory name = file_with (units_of_utf8 name) memory.files
 
 -- the next read, of this name, is one that has to fail
 abbrev pub ReadIsToFail : MemoryFiles → List ℕ → Type 0
@@ -41,11 +40,14 @@ pub record MemorySink : Type 0 where
   pub held : List ℕ
   -- the most bytes that a write takes
   pub piece : ℕ
-  -- the numbers of the writes that fail
+  -- the numbers of the writes that fail, among those of some bytes
   pub fails : List ℕ
+  -- how many pieces that aren't empty it was given
+  pub writes : ℕ
+  -- the same number, up to the most that are counted
   pub calls : ℕ
   pub faults : ℕ
 
 -- the next write, of this piece, is one that has to fail
 abbrev pub WriteIsToFail : MemorySink → List ℕ → Type 0
-WriteIsToFail sink piece = Contains sink.fails sink.calls ⊎ ((sink.piece ≡ 0) × (0 < length piece))
+WriteIsToFail sink piece = (0 < length piece) × (Contains sink.fails sink.calls ⊎ (sink.piece ≡ 0))

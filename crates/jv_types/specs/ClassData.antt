@@ -31,7 +31,12 @@ abbrev pub attrs_of : List Attr → List model.Attr
 attrs_of attributes = map attr_of attributes
 
 abbrev pub member_of : Member → model.Member
-member_of member = record { flags = member.flags; name = member.name; descriptor = member.descriptor; attributes = attrs_of member.attributes.items }
+member_of member = record {
+  flags = member.flags;
+  name = member.name;
+  descriptor = member.descriptor;
+  attributes = attrs_of member.attributes.items;
+}
 
 abbrev pub members_of : List Member → List model.Member
 members_of members = map member_of members

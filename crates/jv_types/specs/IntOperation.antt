@@ -1,7 +1,7 @@
 -- Which operation of the definitions an `IntOperation` is.
 use Rattle.jv_types.specs.declared.int_operation.IntOperation.{IntOperation}
 use Rattle.jv_types.specs.declared.int_operation.IntOperation.TheVariants.{Add, Subtract, Multiply, Conjunction, Disjunction, ExclusiveDisjunction}
-use Rattle.jv_model.specs.IntOperation as model
+use Rattle.straight_line_model.specs.IntOperation as model
 
 abbrev pub operation_of : IntOperation → model.IntOperation
 operation_of Add = model.add

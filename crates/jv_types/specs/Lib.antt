@@ -1,7 +1,9 @@
 pub mod Sequence
-pub mod Units
 pub mod Entry
 pub mod Refusal
+pub mod End
 pub mod Status
 pub mod IntOperation
 pub mod ClassData
+pub mod Reading
+pub mod Lines

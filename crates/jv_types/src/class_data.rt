@@ -5,6 +5,7 @@ ghost use Rattle.std.specs.Prelude.{◌≡◌, IfOk};
 use crate::duplicate::{Duplicate, copy_list};
 use crate::list::List;
 use crate::memory::NoMemory;
+use crate::tag;
 use crate::text::{Bytes, Text};
 use std::alloc::Global;
 
@@ -72,6 +73,35 @@ pub struct ClassData {
     pub fields: List<Member>,
     pub methods: List<Member>,
     pub attributes: List<Attr>,
+}
+
+impl Const {
+    ghost use Rattle.std.specs.Prelude.{◌≡◌};
+    ghost use Rattle.jv_model.specs.ConstantPool.{tag_of};
+    ghost use Rattle.jv_types.specs.ClassData.{const_of};
+
+    /// The entry's tag (JVMS table 4.4-A). A gap has none, and 0 is no entry's.
+    pub fn tag(&self) -> u8
+        ensures { result ≡ tag_of (const_of self.now) }
+    {
+        match self {
+            Const::Gap => 0,
+            Const::Utf8(_) => tag::UTF8,
+            Const::Integer(_) => tag::INTEGER,
+            Const::Float(_) => tag::FLOAT,
+            Const::Long(_) => tag::LONG,
+            Const::Double(_) => tag::DOUBLE,
+            Const::Class(_) => tag::CLASS,
+            Const::String(_) => tag::STRING,
+            Const::Fieldref(..) => tag::FIELDREF,
+            Const::Methodref(..) => tag::METHODREF,
+            Const::InterfaceMethodref(..) => tag::INTERFACE_METHODREF,
+            Const::NameAndType(..) => tag::NAME_AND_TYPE,
+            Const::MethodHandle(..) => tag::METHOD_HANDLE,
+            Const::MethodType(_) => tag::METHOD_TYPE,
+            Const::InvokeDynamic(..) => tag::INVOKE_DYNAMIC,
+        }
+    }
 }
 
 impl Duplicate for Const {

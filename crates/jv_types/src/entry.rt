@@ -1,8 +1,6 @@
 //! The entries of a journal.
 
-/// The number of a thread, from 0 in the order in which threads start.
-#[derive(Clone, Copy, Debug, PartialEq, Eq)]
-pub struct ThreadNo(pub u32);
+use crate::number::ThreadNo;
 
 /// One event of a run.
 #[derive(Clone, Copy, Debug, PartialEq, Eq)]

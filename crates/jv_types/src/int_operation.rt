@@ -1,7 +1,7 @@
 //! The arithmetic of ints (JVMS 6.5).
 
 ghost use Rattle.std.specs.Prelude.{◌≡◌};
-ghost use Rattle.jv_model.specs.IntOperation.{int_result, int_negated};
+ghost use Rattle.straight_line_model.specs.IntOperation.{int_result, int_negated};
 ghost use Rattle.jv_types.specs.IntOperation.{operation_of};
 
 /// What an instruction makes of two ints.

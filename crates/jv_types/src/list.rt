@@ -1,6 +1,6 @@
 //! A list with room that is reserved beforehand.
 
-ghost use Rattle.std.specs.Prelude.{◌≡◌, ◌+◌, ◌-◌, ◌<◌, ◌≤◌, ◌++◌, ◌∷◌, [], length, vec_len, take, slice_get, slice_set, IsOk, IfOk, OnOk, OnErr, Some};
+ghost use Rattle.std.specs.Prelude.{◌≡◌, ◌+◌, ◌-◌, ◌<◌, ◌≤◌, ◌++◌, ◌∷◌, [], ◌==◌, length, vec_len, take, slice_get, slice_set, IsOk, IfOk, OnOk, OnErr, Some};
 ghost use Rattle.jv_types.specs.Sequence.{most_items};
 
 use crate::memory::NoMemory;
@@ -10,7 +10,8 @@ use std::marker::Model;
 /// The most items that a list holds, so that each of them has an index of 32 bits.
 pub const MOST_ITEMS: usize = 0xffff_ffff;
 
-/// A list. Contracts see its items, and as `spare` how many more it takes without asking for memory.
+/// A list. Contracts see its items, and as `spare` how many more it takes without asking for
+/// memory.
 #[derive(Debug, Drop)]
 pub struct List<T> {
     rows: Vec<T>,
@@ -22,7 +23,10 @@ impl<T> Model for List<T> {
 
     ghost Value = { Sequence T };
 
-    ghost view = { λ it. record { items = it.rows.items; spare = min (vec_capacity it.rows) most_items - vec_len it.rows } };
+    ghost view = { λ it. record {
+      items = it.rows.items;
+      spare = min (vec_capacity it.rows) most_items - vec_len it.rows;
+    } };
 
     ghost invariant = { λ it. vec_len it.rows ≤ most_items };
 }
@@ -37,8 +41,8 @@ impl<T> List<T> {
         }
     }
 
-    /// The items of a `Vec`, in place. It takes no memory, and answers `NoMemory` only where the items
-    /// are more than a list holds.
+    /// The items of a `Vec`, in place. It takes no memory, and answers `NoMemory` only where the
+    /// items are more than a list holds.
     pub fn from_vec(rows: Vec<T>) -> Result<List<T>, NoMemory>
     where
         T: Drop,
@@ -58,6 +62,13 @@ impl<T> List<T> {
         self.rows.len() as u32
     }
 
+    /// Whether there are no items.
+    pub fn is_empty(&self) -> bool
+        ensures { result ≡ (length self.now.items == 0) }
+    {
+        self.rows.is_empty()
+    }
+
     /// The items in order.
     pub fn as_slice(&self) -> &[T]
         ensures { result.now ≡ self.now.items }
@@ -73,8 +84,8 @@ impl<T> List<T> {
         &self.rows[at as usize]
     }
 
-    /// Adds an item at the end. Where there is no memory, or no index for it, the items stay. In room
-    /// that was reserved it can't fail.
+    /// Adds an item at the end. Where there is no memory, or no index for it, the items stay. In
+    /// room that was reserved it can't fail.
     pub fn push(&mut self, item: T) -> Result<(), NoMemory>
     where
         T: Drop,
@@ -129,7 +140,8 @@ impl<T: Drop> List<T> {
         self.rows[at as usize] = item;
     }
 
-    /// Keeps the first `n` items, or all where they are no more than `n`. The others leave their room.
+    /// Keeps the first `n` items, or all where they are no more than `n`. The others leave their
+    /// room.
     pub fn cut(&mut self, n: u32)
         ensures items { self.new.items ≡ take n self.old.items }
         ensures spare { self.new.spare ≡ self.old.spare + (length self.old.items - n) }
@@ -139,7 +151,8 @@ impl<T: Drop> List<T> {
 }
 
 impl<T: Copy> List<T> {
-    /// A list of these items, unless there is no memory for them or they are more than a list holds.
+    /// A list of these items, unless there is no memory for them or they are more than a list
+    /// holds.
     pub fn from_slice(alloc: Global, items: &[T]) -> Result<List<T>, NoMemory>
         ensures { IfOk result (λ list. list.items ≡ items.now) }
     {
@@ -148,8 +161,8 @@ impl<T: Copy> List<T> {
         Ok(list)
     }
 
-    /// Adds these items at the end. Where there is no memory, or no index for all of them, the items
-    /// stay. In room that was reserved it can't fail.
+    /// Adds these items at the end. Where there is no memory, or no index for all of them, the
+    /// items stay. In room that was reserved it can't fail.
     pub fn append(&mut self, items: &[T]) -> Result<(), NoMemory>
         ensures ok { OnOk result (self.new.items ≡ self.old.items ++ items.now) }
         ensures err { OnErr result (self.new.items ≡ self.old.items) }

@@ -1,6 +1,6 @@
 //! An operand stack (JVMS 2.6.2).
 
-ghost use Rattle.std.specs.Prelude.{◌≡◌, ◌∷◌, [], ◌++◌, length, IsSome, ◌↔◌, ◌<◌, OnOk, OnErr, option_to_list};
+ghost use Rattle.std.specs.Prelude.{◌≡◌, ◌∷◌, [], ◌++◌, ◌==◌, length, IsSome, ◌↔◌, ◌<◌, OnOk, OnErr, option_to_list};
 
 use crate::memory::NoMemory;
 use std::alloc::Global;
@@ -36,6 +36,13 @@ impl<T> OperandStack<T> {
         ensures { result ≡ length self.now }
     {
         self.operands.len()
+    }
+
+    /// Whether there are no operands.
+    pub fn is_empty(&self) -> bool
+        ensures { result ≡ (length self.now == 0) }
+    {
+        self.operands.is_empty()
     }
 
     /// Puts an operand on top. Where there is no memory for it, the stack stays.

@@ -1,12 +1,16 @@
 //! How a call ends.
 
+use crate::number::ThreadNo;
 use crate::refusal::Cause;
+use crate::text::Text;
 
 /// How a call of the program ends.
-#[derive(Clone, Copy, Debug, PartialEq, Eq)]
+#[derive(Debug, Drop)]
 pub enum Status {
-    /// Every thread ended, and none by a throwable.
+    /// Every thread ended, and none by a throwable; or the work of a mode without a run is done.
     Finished,
+    /// Every thread ended, and a throwable of this class ended the thread, the least such one.
+    Uncaught { class: Text, thread: ThreadNo },
     /// The words of the command are none that are served.
     BadWords,
     /// The input is refused. `item` is the number of the manifest's item, from 1, or 0 where it is
@@ -18,4 +22,18 @@ pub enum Status {
     WriteFault,
     /// Memory ran out.
     NoMemory,
+    /// As many steps were made as the program may make.
+    StepsSpent { n: u32 },
+    /// So many words were asked for; so many can be reached; half of the heap has so many.
+    HeapFull { asked: u32, reach: u32, half: u32 },
+    /// No live thread can make a step.
+    Stuck,
+    /// The output would pass its limit.
+    OutputFull,
+    /// The entry of the journal with this number, from 0, is none, or isn't legal.
+    BadJournal { entry: u64 },
+    /// The stack of the thread would pass its limit.
+    StackDeep { thread: ThreadNo },
+    /// There would be more threads than there may be.
+    ThreadsFull,
 }

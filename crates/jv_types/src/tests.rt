@@ -25,6 +25,20 @@ fn units_are_those_of_utf_16(rt: HostRuntime) -> Result<(), Fail> {
 }
 
 #[test]
+fn errors_are_told(rt: HostRuntime) -> Result<(), Fail> {
+    let alloc = rt.alloc();
+    assert_eq!(rt; format!(in alloc; "{NoMemory}")?.as_str(), "out of memory");
+    let cut = Input::whole_of(b"abc").u4();
+    assert!(rt; matches!(cut, Err(Cut { at: 0 })));
+    let cut = Cut { at: 8 };
+    assert_eq!(rt;
+        format!(in alloc; "{cut}")?.as_str(),
+        "the item at byte 8 isn't whole"
+    );
+    Ok(())
+}
+
+#[test]
 fn ints_wrap(rt: HostRuntime) {
     // As `java` computes them.
     for (operation, a, b, result) in [

@@ -2,7 +2,7 @@
 
 ghost use Rattle.std.specs.Prelude.{◌≡◌, ◌++◌, IfOk, OnOk};
 ghost use Rattle.std.specs.Char.Escape.{encode_utf16};
-ghost use Rattle.jv_types.specs.Units.{units_of};
+ghost use Rattle.jv_model.specs.Utf16.{units_of_utf8};
 
 use crate::list::List;
 use crate::memory::NoMemory;
@@ -31,7 +31,7 @@ fn push_character(units: &mut Text, character: char) -> Result<(), NoMemory>
 
 /// The units of UTF-16 that a text in UTF-8 stands for, unless there is no memory for them.
 pub fn units(alloc: Global, text: &str) -> Result<Text, NoMemory>
-    ensures { IfOk result (λ units. units.items ≡ units_of text.now) }
+    ensures { IfOk result (λ units. units.items ≡ units_of_utf8 text.now) }
 {
     let mut units = List::new(alloc);
     for character in text.chars() {

@@ -34,7 +34,7 @@ fn call(rt: &HostRuntime, words: &Vec<String>) -> Status {
     let mut out = StdSink::new(rt);
     let mut report = StdSink::new(rt);
     let mut trace = FileSink::new(rt, "jvolve.journal");
-    let done = jvolve_alone(
+    let reply = jvolve_alone(
         rt.alloc(),
         words.as_slice(),
         &mut files,
@@ -42,14 +42,14 @@ fn call(rt: &HostRuntime, words: &Vec<String>) -> Status {
         &mut report,
         &mut trace,
     );
-    done.status
+    reply.status
 }
 
 /// Prints the status line, and answers the status that is left: a line that can't be made or
 /// written is want of memory or a write fault.
-fn told(rt: &HostRuntime, status: Status) -> Status {
+fn print_status(rt: &HostRuntime, status: Status) -> Status {
     let mut out = StdSink::new(rt);
-    let Ok(line) = status_line(rt.alloc(), status) else {
+    let Ok(line) = status_line(rt.alloc(), &status) else {
         return Status::NoMemory;
     };
     match write_all(&mut out, line.as_slice()) {
@@ -64,5 +64,5 @@ fn main(rt: HostRuntime) -> ExitCode {
         Err(error) if error.kind() == io::ErrorKind::OutOfMemory => Status::NoMemory,
         Err(_) => Status::BadWords,
     };
-    ExitCode::from(exit_status(told(&rt, status)))
+    ExitCode::from(exit_status(&print_status(&rt, status)))
 }

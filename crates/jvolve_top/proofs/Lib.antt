@@ -1,8 +1,5 @@
-pub mod SplitLemmas
 pub mod WordLemmas
-pub mod LineLemmas
 pub mod FaultLemmas
-pub mod TextLemmas
 pub mod LoadLemmas
 pub mod StraightLineLemmas
 pub mod RunLemmas

@@ -1,71 +1,81 @@
 -- What a call comes to.
-use Rattle.std.proofs.Common.{◌≡◌, ℕ, List, Option, Some, None, is_some, sym, ap, subst, ◌∙◌, inl, inr, refl}
-use Rattle.std.specs.Prelude.{IfSome, IsSome, IsNone, ◌⊎◌}
+use Rattle.std.proofs.Common.{◌≡◌, ℕ, List, [], ◌++◌, ◌≤◌, arith, Option, Some, None, is_some, take, length, sym, ap, subst, ◌∙◌, inl, inr}
+use Rattle.std.specs.Prelude.{IfSome, IsNone, ◌⊎◌, ◌↔◌, MatchOption}
 use Rattle.std.specs.Option.{option_map}
-use Rattle.jv_types.specs.declared.status.Status.{Status as StatusHere}
-use Rattle.jv_types.specs.declared.status.Status.TheVariants.{Finished, WriteFault, NoMemory}
-use Rattle.jv_types.specs.Entry.{entries_of}
+use Rattle.std.proofs.Math.Seq.{take-length}
 use Rattle.jv_model.specs.Refusal.{Cause}
-use Rattle.jv_model.specs.Status.{Status, finished, bad_words, bad_input, read_fault, write_fault, no_memory}
-use Rattle.jv_model.specs.End.{End, all_ended, end_status}
-use Rattle.jv_model.specs.Machine.{Program, Machine}
-use Rattle.jv_model.specs.Journal.{replay}
-use Rattle.jv_model.specs.Invocation.{Invocation, invocation_of}
-use Rattle.jv_model.specs.Load.{Folder, Loading, loads, refuses, misses, load}
-use Rattle.jv_model.specs.Delivery.{Sinks, Texts, GotAll, GotInOrder, OneFailed}
-use Rattle.jv_model.specs.Headline.{EndsAs, Call, Makes, MakesIfTold, loading_of, NothingFailed, texts_of, IsRunOf, Run, ended, cut, starved, Outcome, ran, starved_early, Headline}
-use Rattle.jvolve_top.specs.declared.call.Done.{Done}
-use Rattle.jvolve_top.specs.declared.call.Made.{Made}
-use Rattle.jvolve_top.specs.Sinks.{texts_view}
-use Rattle.jvolve_top.specs.Calls.{answer, IsMade, RunsOrStarves}
+use Rattle.jv_model.specs.Outside.{Folder, counted}
+use Rattle.jv_model.specs.Status.{Status, ended, bad_words, bad_input, read_fault, write_fault, no_memory}
+use Rattle.run_model.specs.Invocation.{Invocation, invocation_of}
+use Rattle.run_model.specs.Loading.{Answer, Loading, loads, refuses, misses}
+use Rattle.run_model.specs.LoadWork.{load_work}
+use Rattle.run_model.specs.Work.{Work, runs}
+use Rattle.jv_model.specs.End.{End}
+use Rattle.straight_line_model.specs.Machine.{end_of}
+use Rattle.run_model.specs.Works.{Works}
+use Rattle.run_model.specs.Delivery.{Sunk, Texts, GotAll, GotFront, GotInOrder, OneFailed}
+use Rattle.run_model.specs.Call.{Call, Makes, MakesIfTold, AsksFirstOf, answer_of, loading_of, product_of, NothingFailed, IsQuiet, AreWritesQuiet}
+use Rattle.run_model.specs.Headline.{Headline, Outcome, worked, starved_early, Done, whole, cut, starved, IsSilent, IsWhole}
+use Rattle.jvolve_top.specs.Loads.{ComesTo, LoadsAll}
 
--- ---- a run that was made, and then written
+-- ---- writes
 
-abbrev done : Made → StatusHere → Done
-done made status = record { status = status; journal = made.journal; shares = made.shares }
+-- a sink that stays still, or that failed once as memory ran out
+quiet_front : (status : Status) (sink : Sunk) (text : List ℕ) → status ≡ no_memory
+    → GotFront sink text → IsQuiet status sink.faults_before sink.faults_after
+quiet_front status sink text starves front =
+    elim front.once [ inl still ↦ inl still | inr once ↦ inr (starves, once) ]
 
-module _ (program : Program) (made : Made) (is : IsMade program made) (sinks : Sinks) where
-  same_texts : texts_view made.texts ≡ texts_of is.ran.machine (entries_of made.journal.items)
-  same_texts = let printed = is.ran.printed in let report = is.report in let trace = is.trace in cc
+-- a count that rose by one rose
+rose : (before after : ℕ) → after ≡ counted before → counted before ≤ after
+rose before after is = no_less (counted before) after is where
+  no_less : (n after : ℕ) → after ≡ n → n ≤ after
+  no_less n after is = omega arith
 
-  run_of : (status : StatusHere) → GotInOrder sinks (texts_view made.texts) → IsRunOf program is.ran.machine (answer (done made status) sinks)
-  run_of status order = record {
-    in_turns = is.ran.in_turns;
-    replayed = is.ran.replayed;
-    delivered = subst (GotInOrder sinks) same_texts order;
-    one_share = inl is.share;
-  }
+module _ (call : Call) where
+  abbrev AllQuiet : Type 0
+  AllQuiet =
+      AreWritesQuiet call call.sinks.out × AreWritesQuiet call call.sinks.report
+      × AreWritesQuiet call call.sinks.trace
 
-  pub all_written : GotInOrder sinks (texts_view made.texts) → GotAll sinks (texts_view made.texts) → RunsOrStarves program (answer (done made Finished) sinks)
-  all_written order all = inl (ended is.ran.machine (run_of Finished order) is.ran.ended (subst (GotAll sinks) same_texts all))
+  quiet_all : (texts : Texts) → GotAll call.sinks texts → AllQuiet
+  quiet_all texts got = (inl got.0.still, inl got.1.still, inl got.2.still)
 
-  pub one_failed : GotInOrder sinks (texts_view made.texts) → OneFailed sinks (texts_view made.texts) → RunsOrStarves program (answer (done made WriteFault) sinks)
-  one_failed order failed =
-      inl (cut is.ran.machine (run_of WriteFault order) (subst IsSome (sym is.ran.ended.is) refl) refl (subst (OneFailed sinks) same_texts failed))
+  quiet_in_order : (texts : Texts) → call.status ≡ no_memory → GotInOrder call.sinks texts
+      → AllQuiet
+  quiet_in_order texts starves (inl out) = (
+    quiet_front call.status call.sinks.out texts.out starves out.0,
+    inl out.1.still,
+    inl
+        out.2.still,
+  )
+  quiet_in_order texts starves (inr (inl report)) = (
+    inl report.0.still,
+    quiet_front call.status call.sinks.report texts.report starves report.1,
+    inl report.2.still,
+  )
+  quiet_in_order texts starves (inr (inr trace)) = (
+    inl trace.0.still,
+    inl trace.1.still,
+    quiet_front call.status call.sinks.trace texts.trace
+        starves trace.2,
+  )
 
-  pub no_memory_left : GotInOrder sinks (texts_view made.texts) → RunsOrStarves program (answer (done made NoMemory) sinks)
-  no_memory_left order = inl (starved is.ran.machine (run_of NoMemory order) refl)
+  quiet_silent : IsSilent call → AllQuiet
+  quiet_silent silent =
+      (inl silent.sinks.0.still, inl silent.sinks.1.still, inl silent.sinks.2.still)
 
--- ---- the promise of a call that ran a program
+  quiet_done : (work : Work) → Done work call → ¬ (call.status ≡ write_fault) → AllQuiet
+  quiet_done work (whole texts works got) not_write = quiet_all texts got
+  quiet_done work (cut texts own works is failed) not_write = absurd (not_write is)
+  quiet_done work (starved texts own works is order) not_write = quiet_in_order texts is order
 
-same_some : {A : Type 0} {x y : A} → ◌≡◌ {A = Option A} (Some x) (Some y) → x ≡ y
-same_some is = cc
+  failed_sink : (texts : Texts) → OneFailed call.sinks texts → NothingFailed call → ⊥
+  failed_sink texts (inl out) nothing = nothing.out (rose _ _ out.0.once)
+  failed_sink texts (inr (inl report)) nothing = nothing.report (rose _ _ report.1.once)
+  failed_sink texts (inr (inr trace)) nothing = nothing.trace (rose _ _ trace.2.once)
 
--- what is made where the files are told is made
-made_once : (words : List (List ℕ)) (told : Option Folder) (folder : Folder) (one other : Loading) → IfSome told (λ folder. loading_of words folder ≡ Some one) → told ≡ Some folder
-    → loading_of words folder ≡ Some other → one ≡ other
-made_once words told folder one other if_told is makes =
-    let tells : loading_of words folder ≡ Some one = subst (λ t. IfSome t (λ folder. loading_of words folder ≡ Some one)) is if_told in
-    same_some (sym tells ∙ makes)
-
-same_made : (call : Call) (one other : Loading) → MakesIfTold call one → Makes call other → one ≡ other
-same_made call one other if_told makes = made_once call.words call.folder makes.0 one other if_told makes.1 makes.2
-
-end_status-finished : (end : End) → end_status end ≡ finished
-end_status-finished all_ended = refl
-
-ends_as-finished : (machine : Machine) (status : Status) → EndsAs machine status → status ≡ finished
-ends_as-finished machine status ends = ends.told ∙ end_status-finished ends.end
+-- ---- statuses
 
 -- a status that tells of no refusal
 record RefusesNothing (status : Status) : Type 0 where
@@ -73,54 +83,176 @@ record RefusesNothing (status : Status) : Type 0 where
   not_input : (item sub : ℕ) (cause : Cause) → status ≡ bad_input item sub cause → ⊥
   not_read : status ≡ read_fault → ⊥
 
-refuses_nothing : (status : Status) → (status ≡ finished) ⊎ (status ≡ write_fault) ⊎ (status ≡ no_memory) → RefusesNothing status
-refuses_nothing status (inl is) = record { not_words = λ other. absurd cc; not_input = λ item sub cause other. absurd cc; not_read = λ other. absurd cc }
-refuses_nothing status (inr (inl is)) = record { not_words = λ other. absurd cc; not_input = λ item sub cause other. absurd cc; not_read = λ other. absurd cc }
-refuses_nothing status (inr (inr is)) = record { not_words = λ other. absurd cc; not_input = λ item sub cause other. absurd cc; not_read = λ other. absurd cc }
+ended_refuses_nothing : (status : Status) (found : Option End)
+    → Some status ≡ option_map ended found → RefusesNothing status
+ended_refuses_nothing status None is = absurd cc
+ended_refuses_nothing status (Some end) is =
+    record {
+      not_words = λ other. absurd cc;
+      not_input =
+          λ item sub cause other. absurd cc;
+      not_read = λ other. absurd cc;
+    }
+
+write_refuses_nothing : (status : Status) → status ≡ write_fault → RefusesNothing status
+write_refuses_nothing status is =
+    record {
+      not_words = λ other. absurd cc;
+      not_input =
+          λ item sub cause other. absurd cc;
+      not_read = λ other. absurd cc;
+    }
+
+memory_refuses_nothing : (status : Status) → status ≡ no_memory → RefusesNothing status
+memory_refuses_nothing status is =
+    record {
+      not_words = λ other. absurd cc;
+      not_input =
+          λ item sub cause other. absurd cc;
+      not_read = λ other. absurd cc;
+    }
+
+works_refuses_nothing : (work : Work) (call : Call) (texts : Texts)
+    → Works work (product_of call texts (Some call.status)) → RefusesNothing call.status
+works_refuses_nothing (runs program) call texts works =
+    ended_refuses_nothing call.status (end_of works.0.machine) works.0.told
+
+done_refuses_nothing : (work : Work) (call : Call) → Done work call → RefusesNothing call.status
+done_refuses_nothing work call (whole texts works got) = works_refuses_nothing work call texts works
+done_refuses_nothing work call (cut texts own works is failed) =
+    write_refuses_nothing call.status is
+done_refuses_nothing work call (starved texts own works is order) =
+    memory_refuses_nothing call.status is
+
+-- ---- the promise of a call whose words are a command
+
+same_some : {A : Type 0} {x y : A} → ◌≡◌ {A = Option A} (Some x) (Some y) → x ≡ y
+same_some is = cc
 
 not_none : {A : Type 0} (o : Option A) (x : A) → o ≡ Some x → IsNone o → ⊥
 not_none o x is none = let some = ap is_some is in absurd cc
 
-failed_sink : (call : Call) (texts : Texts) → OneFailed call.answer.sinks texts → NothingFailed call → ⊥
-failed_sink call texts (inl out) nothing = nothing.out out.0.1
-failed_sink call texts (inr (inl report)) nothing = nothing.report report.1.1
-failed_sink call texts (inr (inr trace)) nothing = nothing.trace trace.2.1
+module _ (call : Call) (invocation : Invocation) (command : invocation_of call.words
+    ≡ Some invocation) where
+  abbrev loading : Folder → Loading Work
+  loading folder = load_work folder invocation
 
-module _ (call : Call) (program : Program) (invocation : Invocation) (asked : invocation_of call.words ≡ Some invocation) (makes : MakesIfTold call (loads program)) where
-  headline_of : Outcome call → RefusesNothing call.answer.status
-      → ((other : Program) → Makes call (loads other) → NothingFailed call
-      → ((machine : Machine) × (replay other call.answer.journal ≡ Some machine) × EndsAs machine call.answer.status) ⊎ (call.answer.status ≡ no_memory))
-      → Headline call
-  headline_of outcome nothing complete = record {
-    outcome = outcome;
-    words = (λ is. absurd (nothing.not_words is), λ none. absurd (not_none (invocation_of call.words) invocation asked none));
-    input = λ item sub cause is. absurd (nothing.not_input item sub cause is);
-    refusal = λ item sub cause other no_fault. let same = same_made call (loads program) (refuses item sub cause) makes other in absurd cc;
-    read = λ is. absurd (nothing.not_read is);
-    missing = λ other. let same = same_made call (loads program) misses makes other in absurd cc;
-    complete = complete;
-  }
+  loading_is : (folder : Folder) → loading_of call folder ≡ Some (loading folder)
+  loading_is folder = ap (option_map (load_work folder)) command
 
-  program_is : (other : Program) → Makes call (loads other) → program ≡ other
-  program_is other made = let same = same_made call (loads program) (loads other) makes made in cc
+  answer_is : (folder : Folder) → answer_of call folder ≡ Some (loading folder).answer
+  answer_is folder =
+      ap (option_map (λ (loading : Loading Work). loading.answer)) (loading_is folder)
 
-  headline_run : Run program call.answer → Headline call
-  headline_run (ended machine run end all) =
-      headline_of (ran program makes (ended machine run end all)) (refuses_nothing call.answer.status (inl (ends_as-finished machine call.answer.status end)))
-      (λ other made nothing. inl (machine, ap (λ p. replay p call.answer.journal) (sym (program_is other made)) ∙ run.replayed, end))
-  headline_run (cut machine run has_end status failed) =
-      headline_of (ran program makes (cut machine run has_end status failed)) (refuses_nothing call.answer.status (inr (inl status)))
-      (λ other made nothing. absurd (failed_sink call (texts_of machine call.answer.journal) failed nothing))
-  headline_run (starved machine run status) =
-      headline_of (ran program makes (starved machine run status)) (refuses_nothing call.answer.status (inr (inr status))) (λ other made nothing. inr status)
+  comes_where_told : (told : Option Folder) (answer : Answer Work)
+      → IfSome told (λ folder. (loading folder).answer ≡ answer)
+      → IfSome told (λ folder. answer_of call folder ≡ Some answer)
+  comes_where_told None answer is = tt
+  comes_where_told (Some folder) answer is = answer_is folder ∙ ap Some is
 
-  pub headline_of_run : RunsOrStarves program call.answer → Headline call
-  headline_of_run (inl run) = headline_run run
-  headline_of_run (inr early) =
-      headline_of (starved_early early.0 early.1) (refuses_nothing call.answer.status (inr (inr early.0))) (λ other made nothing. inr early.0)
+  makes_if_told : (answer : Answer Work) → ComesTo call.files loading answer
+      → MakesIfTold call answer
+  makes_if_told answer comes = comes_where_told call.files.folder answer comes
 
--- what the words make of the files, by what they ask for
-pub makes_if_told : (words : List (List ℕ)) (told : Option Folder) (invocation : Invocation) (loading : Loading) → invocation_of words ≡ Some invocation
-    → IfSome told (λ folder. load invocation folder ≡ loading) → IfSome told (λ folder. loading_of words folder ≡ Some loading)
-makes_if_told words None invocation loading asked makes = tt
-makes_if_told words (Some folder) invocation loading asked makes = ap (option_map (λ invocation. load invocation folder)) asked ∙ ap Some makes
+  -- what the files make is what loading came to
+  same_answer : (one other : Answer Work) → ComesTo call.files loading one → Makes call other
+      → one ≡ other
+  same_answer one other comes makes =
+      let here : (loading makes.0).answer ≡ one =
+      subst (λ told. IfSome told (λ folder. (loading folder).answer ≡ one)) makes.1 comes in
+      sym here ∙ same_some (sym (answer_is makes.0) ∙ makes.2)
+
+  abbrev AsksFirst : Option Folder → Type 0
+  AsksFirst told =
+      IfSome told (λ folder. (count : ℕ)
+      × (call.files.asked_after ≡ call.files.asked_before ++ take count (loading folder).asked))
+
+  asks_where_told : (told : Option Folder) → AsksFirst told
+      → IfSome told
+      (λ folder.
+      IfSome (loading_of call folder) (λ (loading : Loading Work). AsksFirstOf call loading.asked))
+  asks_where_told None asked = tt
+  asks_where_told (Some folder) asked =
+      subst (λ found. IfSome found (λ (loading : Loading Work). AsksFirstOf call loading.asked))
+      (sym (loading_is folder)) asked
+
+  asks : AsksFirst call.files.folder
+      → MatchOption (invocation_of call.words) (AsksFirstOf call [])
+      (λ command.
+      IfSome call.files.folder
+      (λ folder.
+      IfSome (loading_of call folder)
+      (λ (loading : Loading Work). AsksFirstOf call loading.asked)))
+  asks asked = subst (λ found. MatchOption found (AsksFirstOf call [])
+      (λ command.
+      IfSome call.files.folder
+      (λ folder.
+      IfSome (loading_of call folder)
+      (λ (loading : Loading Work). AsksFirstOf call loading.asked))))
+      (sym command) (asks_where_told call.files.folder asked)
+
+  is_command : (call.status ≡ bad_words → ⊥)
+      → (call.status ≡ bad_words) ↔ IsNone (invocation_of call.words)
+  is_command not_words = (
+    λ is. absurd (not_words is),
+    λ none.
+        absurd (not_none (invocation_of call.words) invocation command none),
+  )
+
+  asks_all : (told : Option Folder)
+      → IfSome told (λ folder. call.files.asked_after
+      ≡ call.files.asked_before ++ (loading folder).asked) → AsksFirst told
+  asks_all None asked = tt
+  asks_all (Some folder) asked = (
+    length (loading folder).asked,
+    asked
+        ∙ ap (λ names. call.files.asked_before ++ names)
+        (sym (take-length (loading folder).asked)),
+  )
+
+  -- where work was loaded
+  module _ (work : Work) (loaded : LoadsAll call.files loading work) where
+    headline_loaded : Outcome call → RefusesNothing call.status
+        → (¬ (call.status ≡ write_fault) → AllQuiet call)
+        → ((other : Work) → work ≡ other → NothingFailed call
+        → IsWhole other call ⊎ (call.status ≡ no_memory)) → Headline call
+    headline_loaded outcome nothing quiet complete = record {
+      outcome = outcome;
+      words = is_command nothing.not_words;
+      input = λ item sub cause is. absurd (nothing.not_input item sub cause is);
+      refusal = λ item sub cause makes no_fault. let same =
+          same_answer (loads work) (refuses item sub cause) loaded.answer makes in absurd cc;
+      asked = asks (asks_all call.files.folder loaded.asked);
+      read = λ is. absurd (nothing.not_read is);
+      missing = λ makes. let same = same_answer (loads work) misses loaded.answer makes in
+          absurd cc;
+      quiet_reads = λ not_read. inl loaded.faults;
+      quiet_writes = quiet;
+      complete = λ other makes no_fault. let same =
+          same_answer (loads work) (loads other) loaded.answer makes in
+          complete other (cc) no_fault;
+    }
+
+    whole_or_starved : (other : Work) → Done work call → work ≡ other → NothingFailed call
+        → IsWhole other call ⊎ (call.status ≡ no_memory)
+    whole_or_starved other (whole texts works got) same nothing =
+        inl (subst (λ work. IsWhole work call) same (texts, works))
+    whole_or_starved other (cut texts own works is failed) same nothing =
+        absurd (failed_sink call texts failed nothing)
+    whole_or_starved other (starved texts own works is order) same nothing = inr is
+
+    headline_done : Done work call → Headline call
+    headline_done done =
+        headline_loaded (worked work (makes_if_told (loads work) loaded.answer) loaded.faults done)
+        (done_refuses_nothing work call done)
+        (quiet_done call work done) (λ other same nothing. whole_or_starved other done same nothing)
+
+    headline_starved : call.status ≡ no_memory → IsSilent call → Headline call
+    headline_starved is silent =
+        headline_loaded (starved_early is silent) (memory_refuses_nothing call.status is)
+        (λ not_write. quiet_silent call silent) (λ other same nothing. inr is)
+
+    pub headline_of_work : Done work call ⊎ ((call.status ≡ no_memory) × IsSilent call)
+        → Headline call
+    headline_of_work (inl done) = headline_done done
+    headline_of_work (inr early) = headline_starved early.0 early.1

@@ -1,23 +1,19 @@
--- Lines cut into words.
-use Rattle.std.proofs.Common.{◌≡◌, ℕ, ◌<◌, List, [], ◌∷◌, length, ap, eqb}
-use Rattle.std.specs.List.{position_or_len, before_first, after_first}
-use Rattle.std.proofs.lemmas.List.Splits.{slice_split_first}
+-- Statements with too many words.
+use Rattle.std.proofs.Common.{◌≡◌, ℕ, List, ◌∷◌, ap, eqb}
 use Rattle.jv_model.specs.Lines.{words_of}
 use Rattle.jv_model.specs.Refusal.{wrong_count}
-use Rattle.jv_model.specs.Manifest.{faulty, main_statement, class_statement}
-use Rattle.jvolve_top.proofs.SplitLemmas.{slice_split_some, slice_split_only}
-
--- cut at the first space
-pub words_of_first : (text word rest : List ℕ) → position_or_len (λ byte. eqb byte 32) text < length text → word ≡ before_first (λ byte. eqb byte 32) text
-    → rest ≡ after_first (λ byte. eqb byte 32) text → words_of text ≡ word ∷ words_of rest
-words_of_first text word rest has word-is rest-is = rw (word-is, rest-is) (slice_split_first (λ byte. eqb byte 32) text 0 has)
-
-pub words_of_only : (text : List ℕ) → position_or_len (λ byte. eqb byte 32) text ≡ length text → words_of text ≡ text ∷ []
-words_of_only text lacks = slice_split_only (λ byte. eqb byte 32) text lacks
+use Rattle.straight_line_model.specs.Manifest.{faulty, main_statement, class_statement}
+use Rattle.jv_types.proofs.SplitLemmas.{slice_split_some}
 
 -- one word too many
-pub main_statement_more : (class text : List ℕ) → main_statement (class ∷ words_of text) ≡ faulty wrong_count
-main_statement_more class text = let some = slice_split_some (λ byte. eqb byte 32) text in ap (λ words. main_statement (class ∷ words)) some.is
+pub main_statement_more : (class text : List ℕ)
+    → main_statement (class ∷ words_of text) ≡ faulty wrong_count
+main_statement_more class text =
+    let some = slice_split_some (λ byte. eqb byte 32) text in
+    ap (λ words. main_statement (class ∷ words)) some.is
 
-pub class_statement_more : (class file text : List ℕ) → class_statement (class ∷ file ∷ words_of text) ≡ faulty wrong_count
-class_statement_more class file text = let some = slice_split_some (λ byte. eqb byte 32) text in ap (λ words. class_statement (class ∷ file ∷ words)) some.is
+pub class_statement_more : (class file text : List ℕ)
+    → class_statement (class ∷ file ∷ words_of text) ≡ faulty wrong_count
+class_statement_more class file text =
+    let some = slice_split_some (λ byte. eqb byte 32) text in
+    ap (λ words. class_statement (class ∷ file ∷ words)) some.is

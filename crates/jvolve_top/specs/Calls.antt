@@ -1,31 +1,45 @@
--- A call and its answer, as the definitions see them.
-use Rattle.std.specs.Prelude.{◌≡◌, ℕ, List, [], ◌∷◌, Option, ◌⊎◌, length}
+-- A call and what comes of its work, as the definitions see them.
+use Rattle.std.specs.Prelude.{◌≡◌, ℕ, List, Some, ◌⊎◌}
+use Rattle.std.specs.Borrow.{Bor}
 use Rattle.jv_types.specs.Entry.{entries_of}
 use Rattle.jv_types.specs.Status.{status_of}
-use Rattle.jv_model.specs.Status.{no_memory}
-use Rattle.jv_model.specs.Journal.{journal_text}
-use Rattle.jv_model.specs.Machine.{Program}
-use Rattle.jv_model.specs.Load.{Folder}
-use Rattle.jv_model.specs.Delivery.{Sinks}
-use Rattle.jv_model.specs.Headline.{Answer, Call, Run, IsSilent}
-use Rattle.jvolve_top.specs.declared.call.Done.{Done}
-use Rattle.jvolve_top.specs.declared.call.Made.{Made}
-use Rattle.jvolve_top.specs.Runs.{RanToEnd}
+use Rattle.jv_model.specs.Status.{no_memory, ended}
+use Rattle.jv_model.specs.End.{all_ended}
+use Rattle.straight_line_model.specs.Machine.{Program}
+use Rattle.run_model.specs.Call as model
+use Rattle.run_model.specs.Delivery.{Sunk}
+use Rattle.run_model.specs.Headline.{Done, IsSilent}
+use Rattle.run_model.specs.Work.{runs}
+use Rattle.run_model.specs.Works as works
+use Rattle.jvolve_top.specs.declared.call.Reply.{Reply}
+use Rattle.jvolve_top.specs.declared.call.Product.{Product}
+use Rattle.jvolve_top.specs.Delivers.{texts_view}
+use Rattle.jvolve_top.specs.Outside.{sinks}
+use Rattle.jvolve_top.specs.Words.{words_view}
 
-abbrev pub answer : Done → Sinks → Answer
-answer done sinks = record { status = status_of done.status; journal = entries_of done.journal.items; shares = done.shares.items; sinks = sinks }
+-- the call of these words that came to that reply
+abbrev pub call : List (Bor (List ℕ)) → Reply → model.Read → Sunk → Sunk → Sunk → model.Call
+call words reply files out report trace = record {
+  words = words_view words;
+  files = files;
+  status = status_of reply.status;
+  journal = entries_of reply.journal.items;
+  shares = reply.shares.items;
+  sinks = sinks out report trace;
+}
 
-abbrev pub call : List (List ℕ) → Option Folder → ℕ → ℕ → Answer → Call
-call words folder read_faults_before read_faults_after answer =
-    record { words = words; folder = folder; read_faults_before = read_faults_before; read_faults_after = read_faults_after; answer = answer }
+-- what a run to its end gives
+abbrev pub product_view : Product → works.Product
+product_view product = record {
+  journal = entries_of product.journal.items;
+  shares = product.shares.items;
+  texts = texts_view product.texts;
+  status = Some (ended all_ended);
+}
 
--- a run to its end, its texts and its share
-pub record IsMade (program : Program) (made : Made) : Type 0 where
-  pub ran : RanToEnd program (entries_of made.journal.items) made.texts.out.items
-  pub report : made.texts.report.items ≡ []
-  pub trace : made.texts.trace.items ≡ journal_text (entries_of made.journal.items)
-  pub share : made.shares.items ≡ length (entries_of made.journal.items) ∷ []
-
--- what comes of running a program, where memory lasts until it runs
-abbrev pub RunsOrStarves : Program → Answer → Type 0
-RunsOrStarves program answer = Run program answer ⊎ ((answer.status ≡ no_memory) × IsSilent answer)
+-- What comes of running a program, where memory lasts until it runs. The words that ask for it, and
+-- the files that say it, may be any.
+abbrev pub RunsOrStarves : Program → Reply → Sunk → Sunk → Sunk → Type 0
+RunsOrStarves program reply out report trace = (words : List (Bor (List ℕ))) (files : model.Read)
+    → Done (runs program) (call words reply files out report trace)
+    ⊎ ((status_of reply.status ≡ no_memory) × IsSilent (call words reply files out report trace))

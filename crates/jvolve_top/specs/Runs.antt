@@ -2,14 +2,15 @@
 use Rattle.std.specs.Prelude.{◌≡◌, ℕ, ◌≤◌, ◌⊎◌, length, List, [], ◌∷◌, ◌++◌, map, Option, Some}
 use Rattle.std.specs.Option.{option_map}
 use Rattle.jv_model.specs.Partial.{◌>>=◌}
-use Rattle.jv_model.specs.Status.{finished}
-use Rattle.jv_model.specs.Instruction.{Instruction, Placed}
-use Rattle.jv_model.specs.OperandStack as model
-use Rattle.jv_model.specs.Effect.{Effect, goes_on, returns, effect_of}
-use Rattle.jv_model.specs.Machine.{Program, Machine as ModelMachine, output_of}
-use Rattle.jv_model.specs.Headline.{EndsAs}
-use Rattle.jv_model.specs.Journal.{Entry, replay}
-use Rattle.jv_model.specs.RoundRobin.{IsRoundRobin, most_slice_steps}
+use Rattle.jv_model.specs.End.{all_ended}
+use Rattle.straight_line_model.specs.Instruction.{Instruction, Placed}
+use Rattle.straight_line_model.specs.OperandStack as model
+use Rattle.straight_line_model.specs.Effect.{Effect, goes_on, returns, effect_of}
+use Rattle.straight_line_model.specs.Machine.{Program, Machine as ModelMachine, end_of, output_of}
+use Rattle.jv_model.specs.Journal.{Entry}
+use Rattle.run_model.specs.Journal.{replay}
+use Rattle.run_model.specs.RoundRobin.{IsRoundRobin}
+use Rattle.jv_model.specs.Limits.{most_slice_steps}
 use Rattle.jvolve_top.specs.declared.machine.Value.{Value}
 use Rattle.jvolve_top.specs.declared.machine.Value.TheVariants.{Int, PrintStream}
 use Rattle.jvolve_top.specs.declared.machine.Machine.{Machine}
@@ -58,5 +59,5 @@ pub record RanToEnd (program : Program) (journal : List Entry) (output : List �
   pub machine : ModelMachine
   pub in_turns : IsRoundRobin program journal
   pub replayed : replay program journal ≡ Some machine
-  pub ended : EndsAs machine finished
+  pub ended : end_of machine ≡ Some all_ended
   pub printed : output_of machine ≡ output

@@ -2,7 +2,6 @@
 use Rattle.std.specs.Prelude.{◌≡◌, ℕ, ◌+◌, Result, Ok, Err, MatchResult, List, [], ◌∷◌, ◌++◌, Option, Some, None, option_map, option_to_list}
 use Rattle.std.specs.Borrow.{Bor}
 use Rattle.jv_types.specs.Refusal.{line_kind_of}
-use Rattle.jvolve_top.specs.declared.line.Line.{Line}
 use Rattle.jvolve_top.specs.declared.statement.ClassItem.{ClassItem}
 use Rattle.jvolve_top.specs.declared.statement.Statement.{Statement}
 use Rattle.jvolve_top.specs.declared.statement.Statement.TheVariants.{Main, Class, Faulty}
@@ -12,24 +11,16 @@ use Rattle.jvolve_top.specs.declared.manifest.LineFault.{LineFault}
 use Rattle.jv_types.specs.declared.refusal.LineKind as kinds
 use Rattle.jv_model.specs.Refusal.{LineKind}
 use Rattle.jv_model.specs.Lines as lines
-use Rattle.jv_model.specs.Manifest as model
-
-abbrev pub line_view : Line → lines.Line
-line_view line = record { bytes = line.bytes.now; is_ended = line.is_ended }
+use Rattle.straight_line_model.specs.Manifest as model
 
 abbrev pub item_view : ClassItem → model.ClassItem
 item_view item = record { class = item.class.now; file = item.file.now }
 
 -- what a statement says
-abbrev pub said : Statement → model.Statement
-said (Main class) = model.main_is class.now
-said (Class item) = model.class_is (item_view item)
-said (Faulty kind) = model.faulty (line_kind_of kind)
-
--- the words behind the first one
-abbrev pub operand_words : Option (Bor (List ℕ)) → List (List ℕ)
-operand_words None = []
-operand_words (Some text) = lines.words_of text.now
+abbrev pub statement_view : Statement → model.Statement
+statement_view (Main class) = model.main_is class.now
+statement_view (Class item) = model.class_is (item_view item)
+statement_view (Faulty kind) = model.faulty (line_kind_of kind)
 
 abbrev pub main_list : Option (Bor (List ℕ)) → List (List ℕ)
 main_list main = option_to_list (option_map (λ class. class.now) main)
@@ -47,17 +38,22 @@ classes so_far = class_list so_far.class
 abbrev pub manifest_view : Manifest → model.Manifest
 manifest_view manifest = record { main = manifest.main.now; classes = class_list manifest.class }
 
--- the first fault of lines behind so many lines, whose statements name these main classes and class files
-abbrev pub later_faults : ℕ → List (List ℕ) → List model.ClassItem → List lines.Line → Option (ℕ × LineKind)
+-- the first fault of lines behind so many lines, whose statements name these main classes and class
+-- files
+abbrev pub later_faults : ℕ → List (List ℕ) → List model.ClassItem → List lines.Line
+    → Option (ℕ × LineKind)
 later_faults number mains classes [] = model.missing_main number mains
 later_faults number mains classes (line ∷ after) =
     model.fault_here_or_later (number + 1) (model.later_line_fault mains classes line)
-    (later_faults (number + 1) (mains ++ option_to_list (model.main_in (model.statement_of line))) (classes ++ option_to_list (model.class_in (model.statement_of line))) after)
+    (later_faults (number + 1) (mains ++ option_to_list (model.main_in (model.statement_of line)))
+    (classes ++ option_to_list (model.class_in (model.statement_of line))) after)
 
 -- Where the fault is none, the statements together with the next one; else that fault.
-abbrev pub GoesOn : Result Statements kinds.LineKind → Statements → model.Statement → Option LineKind → Type 0
+abbrev pub GoesOn : Result Statements kinds.LineKind → Statements → model.Statement
+    → Option LineKind → Type 0
 GoesOn result so_far next fault = MatchResult result
-    (λ now. (fault ≡ None) × (mains now ≡ mains so_far ++ option_to_list (model.main_in next)) × (classes now ≡ classes so_far ++ option_to_list (model.class_in next)))
+    (λ now. (fault ≡ None) × (mains now ≡ mains so_far ++ option_to_list (model.main_in next))
+    × (classes now ≡ classes so_far ++ option_to_list (model.class_in next)))
     (λ kind. fault ≡ Some (line_kind_of kind))
 
 abbrev pub fault_view : LineFault → ℕ × LineKind
@@ -66,8 +62,11 @@ fault_view fault = (fault.line, line_kind_of fault.kind)
 -- what the lines behind the first say, or the first fault of them
 abbrev pub AreRead : Result Statements LineFault → List lines.Line → Type 0
 AreRead result lines = MatchResult result
-    (λ statements. (later_faults 1 [] [] lines ≡ None) × (mains statements ≡ model.mains_of lines) × (classes statements ≡ model.classes_of lines))
+    (λ statements. (later_faults 1 [] [] lines ≡ None) × (mains statements ≡ model.mains_of lines)
+    × (classes statements ≡ model.classes_of lines))
     (λ fault. later_faults 1 [] [] lines ≡ Some (fault_view fault))
 
 abbrev pub IsManifest : Result Manifest LineFault → Result model.Manifest (ℕ × LineKind) → Type 0
-IsManifest result read = MatchResult result (λ manifest. read ≡ Ok (manifest_view manifest)) (λ fault. read ≡ Err (fault_view fault))
+IsManifest result read =
+    MatchResult result (λ manifest. read ≡ Ok (manifest_view manifest)) (λ fault. read
+    ≡ Err (fault_view fault))

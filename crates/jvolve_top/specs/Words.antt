@@ -1,13 +1,13 @@
--- Words as the definitions see them.
+-- The words of a command as the definitions see them.
 use Rattle.std.specs.Prelude.{ℕ, List, map}
 use Rattle.std.specs.Borrow.{Bor}
 use Rattle.jvolve_top.specs.declared.words.Invocation.{Invocation}
 use Rattle.jvolve_top.specs.declared.words.Invocation.TheVariants.{Run}
-use Rattle.jv_model.specs.Invocation as model
+use Rattle.run_model.specs.Invocation as model
 
-abbrev pub asked : Invocation → model.Invocation
-asked (Run manifest) = model.run_of manifest.now
+abbrev pub invocation_view : Invocation → model.Invocation
+invocation_view (Run manifest) = model.run_of manifest.now
 
 -- the bytes of words that are lent
-abbrev pub texts : List (Bor (List ℕ)) → List (List ℕ)
-texts words = map (λ word. word.now) words
+abbrev pub words_view : List (Bor (List ℕ)) → List (List ℕ)
+words_view words = map (λ word. word.now) words

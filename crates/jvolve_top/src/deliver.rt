@@ -1,8 +1,7 @@
 //! The writing of a run's texts to its sinks.
 
-ghost use Rattle.std.specs.Prelude.{◌≡◌, OnOk, OnErr, IsErrOf};
-ghost use Rattle.jv_model.specs.Delivery.{GotAll, GotInOrder, OneFailed};
-ghost use Rattle.jvolve_top.specs.Sinks.{sunk, sinks, texts_view};
+ghost use Rattle.jvolve_top.specs.Outside.{sunk, sinks};
+ghost use Rattle.jvolve_top.specs.Delivers.{texts_view, Delivers};
 
 use jv_outer::{Sink, WriteError, write_all};
 use jv_types::Bytes;
@@ -22,20 +21,10 @@ pub(crate) fn deliver<O: Sink, R: Sink, J: Sink>(
     report: &mut R,
     trace: &mut J,
 ) -> Result<(), WriteError>
-    ensures all { OnOk result (GotAll
-        (sinks (sunk (O.bytes out.old) (O.bytes out.new) (O.faults out.old) (O.faults out.new))
-        (sunk (R.bytes report.old) (R.bytes report.new) (R.faults report.old) (R.faults report.new))
-        (sunk (J.bytes trace.old) (J.bytes trace.new) (J.faults trace.old) (J.faults trace.new)))
-        (texts_view texts.now)) }
-    ensures order { GotInOrder
-        (sinks (sunk (O.bytes out.old) (O.bytes out.new) (O.faults out.old) (O.faults out.new))
-        (sunk (R.bytes report.old) (R.bytes report.new) (R.faults report.old) (R.faults report.new))
-        (sunk (J.bytes trace.old) (J.bytes trace.new) (J.faults trace.old) (J.faults trace.new)))
-        (texts_view texts.now) }
-    ensures failed { IsErrOf result WriteError.Failed → OneFailed
-        (sinks (sunk (O.bytes out.old) (O.bytes out.new) (O.faults out.old) (O.faults out.new))
-        (sunk (R.bytes report.old) (R.bytes report.new) (R.faults report.old) (R.faults report.new))
-        (sunk (J.bytes trace.old) (J.bytes trace.new) (J.faults trace.old) (J.faults trace.new)))
+    ensures { Delivers result
+        (sinks (sunk O.bytes O.writes O.faults out.old out.new)
+        (sunk R.bytes R.writes R.faults report.old report.new)
+        (sunk J.bytes J.writes J.faults trace.old trace.new))
         (texts_view texts.now) }
 {
     write_all(out, texts.out.as_slice())?;

@@ -3,20 +3,19 @@
 ghost use Rattle.std.specs.Prelude.{◌≡◌, ◌<◌, ◌≤◌, [], ◌∷◌, ◌++◌, length, map, IfOk, OnOk, IsSome, Some};
 ghost use Rattle.jv_types.specs.Entry.{entries_of};
 ghost use Rattle.class_reader.specs.Body.{instruction_of, placed_of, body_of};
-ghost use Rattle.jv_model.specs.StraightLine.{IsStraightLine};
-ghost use Rattle.jv_model.specs.OperandStack.{int};
-ghost use Rattle.jv_model.specs.Effect.{printed_line};
+ghost use Rattle.straight_line_model.specs.StraightLine.{IsStraightLine};
+ghost use Rattle.straight_line_model.specs.OperandStack.{int};
+ghost use Rattle.straight_line_model.specs.Effect.{printed_line};
 ghost use Rattle.jv_model.specs.Journal.{run};
-ghost use Rattle.jv_model.specs.RoundRobin.{most_slice_steps};
+ghost use Rattle.jv_model.specs.Limits.{most_slice_steps};
 ghost use Rattle.jvolve_top.specs.Loads.{program};
 ghost use Rattle.jvolve_top.specs.Runs.{RanToEnd, IsTurn, values_of, state, after, after_all, HasIntOnTop};
 
 use class_reader::{Body, Instruction, Placed};
-use jv_types::{Bytes, Entry, List, NoMemory, OperandStack, ThreadNo, int_negate, int_op};
+use jv_types::{
+    Bytes, Entry, List, MOST_SLICE_STEPS, NoMemory, OperandStack, ThreadNo, int_negate, int_op,
+};
 use std::alloc::Global;
-
-/// The most steps that a thread makes in its turn.
-const MOST_SLICE_STEPS: usize = 64;
 
 /// A value on the operand stack (JVMS 2.2).
 #[derive(Clone, Copy)]
@@ -59,10 +58,12 @@ fn print_line(alloc: Global, value: i32, output: &mut Bytes) -> Result<(), NoMem
 }
 
 impl Machine {
-    /// Runs an instruction, which finds its operands. A `return` leaves the frame to whoever runs it.
+    /// Runs an instruction, which finds its operands. A `return` leaves the frame to whoever runs
+    /// it.
     fn execute(&mut self, alloc: Global, instruction: Instruction) -> Result<(), NoMemory>
         requires { IsSome (after (instruction_of instruction) (state self.old)) }
-        ensures { OnOk result (after (instruction_of instruction) (state self.old) ≡ Some (state self.new)) }
+        ensures { OnOk result
+            (after (instruction_of instruction) (state self.old) ≡ Some (state self.new)) }
     {
         match instruction {
             Instruction::Constant(value) => self.stack.push(Value::Int(value)),
@@ -92,7 +93,8 @@ impl Machine {
     /// Runs instructions one after the other, which find their operands.
     fn run_slice(&mut self, alloc: Global, slice: &[Placed]) -> Result<(), NoMemory>
         requires { IsSome (after_all (map placed_of slice.now) (state self.old)) }
-        ensures { OnOk result (after_all (map placed_of slice.now) (state self.old) ≡ Some (state self.new)) }
+        ensures { OnOk result
+            (after_all (map placed_of slice.now) (state self.old) ≡ Some (state self.new)) }
     {
         for placed in slice {
             self.execute(alloc, placed.instruction)?;
@@ -109,8 +111,10 @@ impl Machine {
     ) -> Result<(), NoMemory>
         requires runs { IsSome (after_all (map placed_of slice.now) (state self.old)) }
         requires short { length slice.now ≤ most_slice_steps }
-        ensures state { OnOk result (after_all (map placed_of slice.now) (state self.old) ≡ Some (state self.new)) }
-        ensures entry { OnOk result (entries_of journal.new.items ≡ entries_of journal.old.items ++ run 0 (length slice.now) ∷ []) }
+        ensures state { OnOk result
+            (after_all (map placed_of slice.now) (state self.old) ≡ Some (state self.new)) }
+        ensures entry { OnOk result (entries_of journal.new.items
+            ≡ entries_of journal.old.items ++ run 0 (length slice.now) ∷ []) }
     {
         self.run_slice(alloc, slice)?;
         journal.push(Entry::Run {
@@ -132,7 +136,8 @@ fn split_turn(rest: &[Placed]) -> (&[Placed], &[Placed])
 /// Runs a program to its end: thread 0 makes a step for each instruction, in turns of 64.
 pub(crate) fn run_to_end(alloc: Global, body: &Body) -> Result<Run, NoMemory>
     requires { IsStraightLine (body_of body.now) }
-    ensures { IfOk result (λ run. RanToEnd (program body.now) (entries_of run.journal.items) run.output.items) }
+    ensures { IfOk result
+        (λ run. RanToEnd (program body.now) (entries_of run.journal.items) run.output.items) }
 {
     let mut machine = Machine {
         stack: OperandStack::new(alloc),

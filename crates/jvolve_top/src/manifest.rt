@@ -5,12 +5,13 @@ ghost use Rattle.std.specs.Str.{is_utf8};
 ghost use Rattle.jv_types.specs.Refusal.{line_kind_of};
 ghost use Rattle.jv_model.specs.Limits.{most_file_bytes};
 ghost use Rattle.jv_model.specs.Lines.{lines_of};
-ghost use Rattle.jv_model.specs.Manifest.{statement_fault, first_line_fault, later_line_fault, unless_not_text, statement_of, manifest_of};
-ghost use Rattle.jvolve_top.specs.Statements.{line_view, said, class_list, mains, classes, GoesOn, AreRead, IsManifest};
+ghost use Rattle.straight_line_model.specs.Manifest.{statement_fault, first_line_fault, later_line_fault, unless_not_text, statement_of, manifest_of};
+ghost use Rattle.jv_types.specs.Lines.{line_view};
+ghost use Rattle.jvolve_top.specs.Statements.{statement_view, class_list, mains, classes, GoesOn, AreRead, IsManifest};
 
-use crate::line::{Line, split_line};
 use crate::statement::{ClassItem, Statement, read_statement};
 use jv_types::LineKind;
+use jv_types::lines::{Line, split_line};
 use std::str;
 
 /// What a manifest says.
@@ -41,7 +42,8 @@ fn next_statement<'a>(
     so_far: Statements<'a>,
     next: Statement<'a>,
 ) -> Result<Statements<'a>, LineKind>
-    ensures { GoesOn result so_far.entry (said next.entry) (statement_fault (mains so_far.entry) (classes so_far.entry) (said next.entry)) }
+    ensures { GoesOn result so_far.entry (statement_view next.entry)
+        (statement_fault (mains so_far.entry) (classes so_far.entry) (statement_view next.entry)) }
 {
     match next {
         Statement::Faulty(kind) => Err(kind),
@@ -65,7 +67,8 @@ fn next_statement<'a>(
 /// The line's text, where it is one.
 fn text_of<'a>(line: &Line<'a>) -> Option<&'a str>
     ensures none { IfNone result ((line.now.is_ended && is_utf8 line.now.bytes.now) ≡ false) }
-    ensures some { IfSome result (λ text. (text.now ≡ line.now.bytes.now) × ((line.now.is_ended && is_utf8 line.now.bytes.now) ≡ true)) }
+    ensures some { IfSome result (λ text. (text.now ≡ line.now.bytes.now)
+        × ((line.now.is_ended && is_utf8 line.now.bytes.now) ≡ true)) }
 {
     if !line.is_ended {
         return None;
@@ -91,7 +94,8 @@ fn first_line_fault(line: &Line<'_>) -> Option<LineKind>
 
 /// What the statements say together with the next line's, or what is wrong with that line.
 fn next_line<'a>(so_far: Statements<'a>, line: &Line<'a>) -> Result<Statements<'a>, LineKind>
-    ensures { GoesOn result so_far.entry (statement_of (line_view line.now)) (later_line_fault (mains so_far.entry) (classes so_far.entry) (line_view line.now)) }
+    ensures { GoesOn result so_far.entry (statement_of (line_view line.now))
+        (later_line_fault (mains so_far.entry) (classes so_far.entry) (line_view line.now)) }
 {
     let Some(text) = text_of(line) else {
         return Err(LineKind::Text);

@@ -2,11 +2,12 @@
 
 ghost use Rattle.std.specs.Prelude.{◌≡◌};
 ghost use Rattle.jv_model.specs.Lines.{words_of};
-ghost use Rattle.jv_model.specs.Manifest.{statement_of_words, main_statement, class_statement};
-ghost use Rattle.jvolve_top.specs.Statements.{said, operand_words};
+ghost use Rattle.straight_line_model.specs.Manifest.{statement_of_words, main_statement, class_statement};
+ghost use Rattle.jv_types.specs.Lines.{operand_words};
+ghost use Rattle.jvolve_top.specs.Statements.{statement_view};
 
-use crate::line::first_word;
 use jv_types::LineKind;
+use jv_types::lines::first_word;
 
 /// A class file that a manifest names: the class that is to be in it, and the file's name.
 #[derive(Clone, Copy)]
@@ -25,7 +26,7 @@ pub(crate) enum Statement<'a> {
 
 #[tactic(auto, using(crate::proofs::WordLemmas::main_statement_more))]
 fn main_statement(operands: Option<&str>) -> Statement<'_>
-    ensures { said result ≡ main_statement (operand_words operands.entry) }
+    ensures { statement_view result ≡ main_statement (operand_words operands.entry) }
 {
     let Some(text) = operands else {
         return Statement::Faulty(LineKind::Count);
@@ -41,7 +42,7 @@ fn main_statement(operands: Option<&str>) -> Statement<'_>
 
 #[tactic(auto, using(crate::proofs::WordLemmas::class_statement_more))]
 fn class_statement(operands: Option<&str>) -> Statement<'_>
-    ensures { said result ≡ class_statement (operand_words operands.entry) }
+    ensures { statement_view result ≡ class_statement (operand_words operands.entry) }
 {
     let Some(text) = operands else {
         return Statement::Faulty(LineKind::Count);
@@ -63,7 +64,7 @@ fn class_statement(operands: Option<&str>) -> Statement<'_>
 
 /// What a line says.
 pub(crate) fn read_statement(line: &str) -> Statement<'_>
-    ensures { said result ≡ statement_of_words (words_of line.now) }
+    ensures { statement_view result ≡ statement_of_words (words_of line.now) }
 {
     let (word, operands) = first_word(line);
     match word {

@@ -2,10 +2,11 @@
 
 use super::*;
 use crate::manifest::read_manifest;
-use jv_outer::{MemFiles, MemSink};
+use jv_outer::{DiskFiles, FileSink, Files, MemFiles, MemSink, write_all};
 use jv_types::text::units;
 use jv_types::{Bytes, Entry, LineKind, List, NoMemory, Status, ThreadNo};
 use std::alloc::Global;
+use std::fs;
 use std::test::Fail;
 
 /// The class Main, whose main is `return` alone, as `javac` would write it without its attributes.
@@ -18,14 +19,12 @@ const MANIFEST: &[u8] = b"jvolve 1\nmain Main\nclass Main Main.class\n";
 const ADD_CLASS: &[u8] =
     b"\xca\xfe\xba\xbe\0\0\04\0\x15\x01\0\x04Main\x07\0\x01\x01\0\x10java/lang/Object\x07\0\x03\x01\0\x04main\x01\0\x16([Ljava/lang/String;)V\x01\0\x04Code\x01\0\x10java/lang/System\x07\0\x08\x01\0\x03out\x01\0\x15Ljava/io/PrintStream;\x0c\0\x0a\0\x0b\x09\0\x09\0\x0c\x03\x7f\xff\xff\xff\x01\0\x13java/io/PrintStream\x07\0\x0f\x01\0\x07println\x01\0\x04(I)V\x0c\0\x11\0\x12\x0a\0\x10\0\x13\0!\0\x02\0\x04\0\0\0\0\0\x01\0\x09\0\x05\0\x06\0\x01\0\x07\0\0\0\x17\0\x03\0\x01\0\0\0\x0b\xb2\0\x0d\x12\x0e\x04`\xb6\0\x14\xb1\0\0\0\0\0\0";
 
-/// The manifest and this class file, and the numbers of the reads that fail.
-fn files(alloc: Global, class: Bytes, fails: &[u64]) -> Result<MemFiles, NoMemory> {
+/// These files, and the numbers of the reads that fail.
+fn files(alloc: Global, held: &[(&str, &[u8])], fails: &[u64]) -> Result<MemFiles, NoMemory> {
     let mut files = List::new(alloc);
-    files.push((
-        units(alloc, "manifest")?,
-        List::from_slice(alloc, MANIFEST)?,
-    ))?;
-    files.push((units(alloc, "Main.class")?, class))?;
+    for (name, bytes) in held {
+        files.push((units(alloc, name)?, List::from_slice(alloc, bytes)?))?;
+    }
     Ok(MemFiles::new(files, List::from_slice(alloc, fails)?))
 }
 
@@ -34,120 +33,137 @@ fn sink(alloc: Global, piece: u32, fails: &[u64]) -> Result<MemSink, NoMemory> {
     MemSink::new(alloc, piece, List::from_slice(alloc, fails)?)
 }
 
-/// The three sinks of a call.
-#[derive(Drop)]
-struct Sinks {
-    out: MemSink,
-    report: MemSink,
-    trace: MemSink,
+/// What the program that prints a sum leaves, with the numbers of the reads and the writes that fail.
+#[derive(Clone, Copy)]
+struct Case<'a> {
+    /// The most bytes that a write to the output takes.
+    piece: u32,
+    reads: &'a [u64],
+    out: &'a [u64],
+    report: &'a [u64],
+    trace: &'a [u64],
+    /// The last line that a user sees, and what the sinks of the output and the journal hold then.
+    line: &'a [u8],
+    printed: &'a [u8],
+    journal: &'a [u8],
 }
 
-/// What `run manifest` leaves.
-fn run(alloc: Global, mut files: MemFiles, sinks: &mut Sinks) -> Done {
+const ADD_FILES: [(&str, &[u8]); 2] = [("manifest", MANIFEST), ("Main.class", ADD_CLASS)];
+
+fn is_left(alloc: Global, case: &Case<'_>) -> Result<bool, NoMemory> {
+    let mut files = files(alloc, &ADD_FILES, case.reads)?;
+    let mut out = sink(alloc, case.piece, case.out)?;
+    let mut report = sink(alloc, 1, case.report)?;
+    let mut trace = sink(alloc, 1, case.trace)?;
     let words = ["run", "manifest"];
-    let Sinks { out, report, trace } = sinks;
-    jvolve_alone(alloc, &words, &mut files, out, report, trace)
+    let reply = jvolve_alone(alloc, &words, &mut files, &mut out, &mut report, &mut trace);
+    let line = status_line(alloc, &reply.status)?;
+    Ok(line.as_slice() == case.line && out.bytes() == case.printed && trace.bytes() == case.journal)
 }
 
-/// Sinks that take one byte a write, each of which fails at the listed ones.
-fn byte_sinks(
-    alloc: Global,
-    out: &[u64],
-    report: &[u64],
-    trace: &[u64],
-) -> Result<Sinks, NoMemory> {
-    Ok(Sinks {
-        out: sink(alloc, 1, out)?,
-        report: sink(alloc, 1, report)?,
-        trace: sink(alloc, 1, trace)?,
-    })
-}
+const FINISHED: &[u8] = b"jvolve: 0 finished\n";
 
-/// How the program that prints a sum ends, and what its sinks hold then.
-fn ends(
-    alloc: Global,
-    reads: &[u64],
-    sinks: &mut Sinks,
-    status: Status,
-    out: &[u8],
-    trace: &[u8],
-) -> Result<bool, NoMemory> {
-    let class = List::from_slice(alloc, ADD_CLASS)?;
-    let done = run(alloc, files(alloc, class, reads)?, sinks);
-    Ok(done.status == status && sinks.out.bytes() == out && sinks.trace.bytes() == trace)
-}
+const READ_FAULT: &[u8] = b"jvolve: 4 read fault\n";
+
+const WRITE_FAULT: &[u8] = b"jvolve: 5 write fault\n";
 
 const PRINTED: &[u8] = b"-2147483648\n";
 
 const ADD_JOURNAL: &[u8] = b"run 0 6\nend\n";
 
-#[test]
-fn a_sum_is_printed(rt: HostRuntime) -> Result<(), Fail> {
-    let mut sinks = byte_sinks(rt.alloc(), &[], &[], &[])?;
-    let ends = ends(
-        rt.alloc(),
-        &[],
-        &mut sinks,
-        Status::Finished,
-        PRINTED,
-        ADD_JOURNAL,
-    )?;
-    assert!(rt; ends);
-    Ok(())
-}
+const NO_FAULT: Case<'static> = Case {
+    piece: 1,
+    reads: &[],
+    out: &[],
+    report: &[],
+    trace: &[],
+    line: FINISHED,
+    printed: PRINTED,
+    journal: ADD_JOURNAL,
+};
 
 #[test]
-fn a_read_that_fails_is_told(rt: HostRuntime) -> Result<(), Fail> {
-    // The manifest is the first file that is read, and the class file the second.
-    for read in [0u64, 1] {
-        let mut sinks = byte_sinks(rt.alloc(), &[], &[], &[])?;
-        let ends = ends(rt.alloc(), &[read], &mut sinks, Status::ReadFault, b"", b"")?;
-        assert!(rt; ends, "read {read}");
+fn a_sum_is_printed_up_to_the_first_fault(rt: HostRuntime) -> Result<(), Fail> {
+    let cases = [
+        NO_FAULT,
+        // The manifest is the first file that is read, and the class file the second and last.
+        Case {
+            reads: &[0],
+            line: READ_FAULT,
+            printed: b"",
+            journal: b"",
+            ..NO_FAULT
+        },
+        Case {
+            reads: &[1],
+            line: READ_FAULT,
+            printed: b"",
+            journal: b"",
+            ..NO_FAULT
+        },
+        Case {
+            reads: &[2],
+            ..NO_FAULT
+        },
+        Case {
+            out: &[2],
+            line: WRITE_FAULT,
+            printed: b"-2",
+            journal: b"",
+            ..NO_FAULT
+        },
+        Case {
+            trace: &[4],
+            line: WRITE_FAULT,
+            journal: b"run ",
+            ..NO_FAULT
+        },
+        // There is no update, so nothing is written to the report.
+        Case {
+            report: &[0],
+            ..NO_FAULT
+        },
+        Case {
+            piece: 3,
+            out: &[1],
+            line: WRITE_FAULT,
+            printed: b"-21",
+            journal: b"",
+            ..NO_FAULT
+        },
+    ];
+    for (number, case) in cases.iter().enumerate() {
+        assert!(rt; is_left(rt.alloc(), case)?, "case {number}");
     }
     Ok(())
 }
 
 #[test]
-fn a_write_that_fails_is_told(rt: HostRuntime) -> Result<(), Fail> {
+fn a_refusal_leaves_an_older_journal_as_it_is(rt: HostRuntime) -> Result<(), Fail> {
     let alloc = rt.alloc();
-    let mut third_byte = byte_sinks(alloc, &[2], &[], &[])?;
-    let ends_there = ends(alloc, &[], &mut third_byte, Status::WriteFault, b"-2", b"")?;
-    assert!(rt; ends_there);
-    let mut journal = byte_sinks(alloc, &[], &[], &[4])?;
-    let ends_there = ends(
-        alloc,
-        &[],
-        &mut journal,
-        Status::WriteFault,
-        PRINTED,
-        b"run ",
-    )?;
-    assert!(rt; ends_there);
-    Ok(())
-}
-
-#[test]
-fn a_write_that_never_comes_does_not_fail(rt: HostRuntime) -> Result<(), Fail> {
-    // There is no update, so nothing is written to the report.
-    let mut sinks = byte_sinks(rt.alloc(), &[], &[0], &[])?;
-    let ends = ends(
-        rt.alloc(),
-        &[],
-        &mut sinks,
-        Status::Finished,
-        PRINTED,
-        ADD_JOURNAL,
-    )?;
-    assert!(rt; ends);
-    Ok(())
-}
-
-#[test]
-fn pieces_of_three_bytes(rt: HostRuntime) -> Result<(), Fail> {
-    let mut sinks = byte_sinks(rt.alloc(), &[], &[], &[])?;
-    sinks.out = sink(rt.alloc(), 3, &[1])?;
-    let ends = ends(rt.alloc(), &[], &mut sinks, Status::WriteFault, b"-21", b"")?;
-    assert!(rt; ends);
+    let mut older = FileSink::new(&rt, "older.journal");
+    write_all(&mut older, b"older\n")?;
+    let mut files = files(alloc, &[("manifest", b"jvolve 2\n".as_slice())], &[])?;
+    let mut out = sink(alloc, 1, &[])?;
+    let mut report = sink(alloc, 1, &[])?;
+    let mut trace = FileSink::new(&rt, "older.journal");
+    for (words, line) in [
+        (
+            ["run", "manifest"],
+            b"jvolve: 3 bad input 0 0 71 manifest line 1 head\n".as_slice(),
+        ),
+        (["run", "missing"], READ_FAULT),
+        (["walk", "manifest"], b"jvolve: 2 bad words\n".as_slice()),
+    ] {
+        let reply = jvolve_alone(alloc, &words, &mut files, &mut out, &mut report, &mut trace);
+        assert_eq!(rt; status_line(alloc, &reply.status)?.as_slice(), line);
+    }
+    let mut disk = DiskFiles::new(&rt);
+    assert_eq!(rt;
+        disk.read(alloc, "older.journal", 9)?.as_slice(),
+        b"older\n".as_slice()
+    );
+    fs::remove_file(&rt, "older.journal")?;
     Ok(())
 }
 
@@ -166,14 +182,21 @@ fn longest_class(alloc: Global) -> Result<Bytes, NoMemory> {
 #[test]
 fn a_turn_has_64_steps(rt: HostRuntime) -> Result<(), Fail> {
     let alloc = rt.alloc();
-    let mut sinks = byte_sinks(alloc, &[], &[], &[])?;
-    let done = run(alloc, files(alloc, longest_class(alloc)?, &[])?, &mut sinks);
-    assert_eq!(rt; done.status, Status::Finished);
+    let class = longest_class(alloc)?;
+    let held = [("manifest", MANIFEST), ("Main.class", class.as_slice())];
+    let mut files = files(alloc, &held, &[])?;
+    let mut out = sink(alloc, 1, &[])?;
+    let mut report = sink(alloc, 1, &[])?;
+    let mut trace = sink(alloc, 9, &[])?;
+    let words = ["run", "manifest"];
+    let reply = jvolve_alone(alloc, &words, &mut files, &mut out, &mut report, &mut trace);
+    assert!(rt; matches!(reply.status, Status::Finished));
+    assert_eq!(rt; exit_status(&reply.status), 0);
     // 1,023 turns of 64 steps and one of 63 make 65,535.
-    assert_eq!(rt; done.journal.len(), 1024);
-    assert_eq!(rt; done.shares.as_slice(), [1024].as_slice());
-    let first = done.journal.as_slice().first().copied();
-    let last = done.journal.as_slice().last().copied();
+    assert_eq!(rt; reply.journal.len(), 1024);
+    assert_eq!(rt; reply.shares.as_slice(), [1024].as_slice());
+    let first = reply.journal.as_slice().first().copied();
+    let last = reply.journal.as_slice().last().copied();
     let thread = ThreadNo(0);
     assert_eq!(rt; first, Some(Entry::Run { thread, steps: 64 }));
     assert_eq!(rt; last, Some(Entry::Run { thread, steps: 63 }));
@@ -193,19 +216,23 @@ fn is_refused(text: &[u8], line: u32, kind: LineKind) -> bool {
 
 #[test]
 fn manifests_are_refused_at_their_line(rt: HostRuntime) {
-    assert!(rt; is_refused(b"", 1, LineKind::Head));
-    assert!(rt; is_refused(b"jvolve 1", 1, LineKind::Text));
-    assert!(rt; is_refused(b"jvolve 2\n", 1, LineKind::Head));
-    assert!(rt; is_refused(b"jvolve 1\n", 1, LineKind::Main));
-    assert!(rt; is_refused(b"jvolve 1\nclass A B\n", 2, LineKind::Main));
-    assert!(rt; is_refused(b"jvolve 1\nmain A\nmain B\n", 3, LineKind::Main));
-    assert!(rt; is_refused(b"jvolve 1\nmain A\nmain B C\n", 3, LineKind::Count));
-    assert!(rt; is_refused(b"jvolve 1\nmain A \n", 2, LineKind::Count));
-    assert!(rt; is_refused(b"jvolve 1\nclass A  B\n", 2, LineKind::Count));
-    assert!(rt; is_refused(b"jvolve 1\nclass A B\nclass C D\n", 3, LineKind::Many));
-    assert!(rt; is_refused(b"jvolve 1\nmain A\njvolve 1\n", 3, LineKind::Order));
-    assert!(rt; is_refused(b"jvolve 1\nmain A\nasm A\n", 3, LineKind::Word));
-    assert!(rt; is_refused(b"jvolve 1\n\nmain A\n", 2, LineKind::Word));
-    assert!(rt; is_refused(b"jvolve 1\nmain \xff\n", 2, LineKind::Text));
-    assert!(rt; is_refused(b"jvolve 1\nmain A\nclass A B", 3, LineKind::Text));
+    for (text, line, kind) in [
+        (b"".as_slice(), 1, LineKind::Head),
+        (b"jvolve 1", 1, LineKind::Text),
+        (b"jvolve 2\n", 1, LineKind::Head),
+        (b"jvolve 1\n", 1, LineKind::Main),
+        (b"jvolve 1\nclass A B\n", 2, LineKind::Main),
+        (b"jvolve 1\nmain A\nmain B\n", 3, LineKind::Main),
+        (b"jvolve 1\nmain A\nmain B C\n", 3, LineKind::Count),
+        (b"jvolve 1\nmain A \n", 2, LineKind::Count),
+        (b"jvolve 1\nclass A  B\n", 2, LineKind::Count),
+        (b"jvolve 1\nclass A B\nclass C D\n", 3, LineKind::Many),
+        (b"jvolve 1\nmain A\njvolve 1\n", 3, LineKind::Order),
+        (b"jvolve 1\nmain A\nasm A\n", 3, LineKind::Word),
+        (b"jvolve 1\n\nmain A\n", 2, LineKind::Word),
+        (b"jvolve 1\nmain \xff\n", 2, LineKind::Text),
+        (b"jvolve 1\nmain A\nclass A B", 3, LineKind::Text),
+    ] {
+        assert!(rt; is_refused(text, line, kind), "{text:?}");
+    }
 }

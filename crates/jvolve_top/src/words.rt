@@ -1,8 +1,8 @@
 //! The words of a command.
 
 ghost use Rattle.std.specs.Prelude.{◌≡◌, option_map};
-ghost use Rattle.jv_model.specs.Invocation.{invocation_of};
-ghost use Rattle.jvolve_top.specs.Words.{asked, texts};
+ghost use Rattle.run_model.specs.Invocation.{invocation_of};
+ghost use Rattle.jvolve_top.specs.Words.{invocation_view, words_view};
 
 /// What a command asks for.
 #[derive(Clone, Copy)]
@@ -13,7 +13,7 @@ pub(crate) enum Invocation<'a> {
 
 /// What the words ask for, where they are in the form of a command.
 pub(crate) fn read_words<'a>(words: &[&'a str]) -> Option<Invocation<'a>>
-    ensures { option_map asked result ≡ invocation_of (texts words.now) }
+    ensures { option_map invocation_view result ≡ invocation_of (words_view words.now) }
 {
     match words {
         [mode, manifest] if *mode == "run" => Some(Invocation::Run { manifest }),

@@ -1,8 +1,8 @@
 //! A class file (JVMS 4.1) of one class with one method, its main.
 
 ghost use Rattle.std.specs.Prelude.{◌≡◌, IfOk};
-ghost use Rattle.jv_model.specs.StraightLine.{IsStraightLine};
-ghost use Rattle.jv_model.specs.ClassFile.{version_at, begins_with, is_reserved, is_wanted, class_head_at, has_text, method_head_at, code_attribute_at, main_body_of};
+ghost use Rattle.straight_line_model.specs.StraightLine.{IsStraightLine};
+ghost use Rattle.straight_line_model.specs.ClassFile.{version_at, begins_with, is_reserved, is_wanted, class_head_at, has_text, method_head_at, code_attribute_at, main_body_of};
 ghost use Rattle.class_reader.specs.Body.{body_of};
 ghost use Rattle.class_reader.specs.Gives.{GivesForm};
 
@@ -12,15 +12,14 @@ use super::error::FormError;
 use super::number::u2_of;
 use super::pool::{Pool, is_text};
 use crate::class_file::MAGIC;
-use crate::input::Input;
-use jv_types::MOST_FILE_BYTES;
+use jv_types::{Input, MOST_FILE_BYTES};
 use std::alloc::Global;
 
 /// The flags of a method that is public and static, and nothing else (JVMS 4.6).
 const PUBLIC_STATIC: u16 = 9;
 
 /// Reads the magic number and the versions. The major ones are those of Java SE 7 and 8.
-#[tactic(auto, unfolding(jv_model::specs::ClassFile::version_at))]
+#[tactic(auto, unfolding(straight_line_model::specs::ClassFile::version_at))]
 fn read_version(input: &mut Input) -> Result<(), FormError>
     ensures { GivesForm (λ _. input.new) result (version_at input.old) }
 {
@@ -59,7 +58,7 @@ fn is_wanted(pool: &Pool, class: &str, main: &str, index: u16) -> bool
 }
 
 /// Reads any flags, the class, its superclass, no interfaces and no fields.
-#[tactic(auto, unfolding(jv_model::specs::ClassFile::class_head_at))]
+#[tactic(auto, unfolding(straight_line_model::specs::ClassFile::class_head_at))]
 fn read_class_head(pool: &Pool, class: &str, main: &str, input: &mut Input) -> Result<(), FormError>
     ensures { GivesForm (λ _. input.new) result (class_head_at pool.now class.now main.now input.old) }
 {
@@ -83,7 +82,7 @@ fn has_text(pool: &Pool, text: &[u8], index: u16) -> bool
 }
 
 /// Reads one method (JVMS 4.6), which is public, static and named main, with one attribute.
-#[tactic(auto, unfolding(jv_model::specs::ClassFile::method_head_at))]
+#[tactic(auto, unfolding(straight_line_model::specs::ClassFile::method_head_at))]
 fn read_method_head(pool: &Pool, input: &mut Input) -> Result<(), FormError>
     ensures { GivesForm (λ _. input.new) result (method_head_at pool.now input.old) }
 {
@@ -101,7 +100,7 @@ fn read_method_head(pool: &Pool, input: &mut Input) -> Result<(), FormError>
 }
 
 /// Reads the method's attribute, which is its code (JVMS 4.7).
-#[tactic(auto, unfolding(jv_model::specs::ClassFile::code_attribute_at))]
+#[tactic(auto, unfolding(straight_line_model::specs::ClassFile::code_attribute_at))]
 fn read_code_attribute(alloc: Global, pool: &Pool, input: &mut Input) -> Result<Body, FormError>
     ensures code { GivesForm (λ body. (body_of body, input.new)) result
         (code_attribute_at pool.now input.old) }
@@ -123,7 +122,7 @@ fn read_code_attribute(alloc: Global, pool: &Pool, input: &mut Input) -> Result<
 ///
 /// The error is the first item that isn't whole, or the first thing in a form that isn't built yet,
 /// as a second class, a field or a second method. A longer file has such a form as a whole.
-#[tactic(auto, unfolding(jv_model::specs::ClassFile::main_body_of))]
+#[tactic(auto, unfolding(straight_line_model::specs::ClassFile::main_body_of))]
 pub fn read_main(alloc: Global, bytes: &[u8], class: &str, main: &str) -> Result<Body, FormError>
     ensures body { GivesForm body_of result (main_body_of class.now main.now bytes.now) }
 

@@ -1,12 +1,11 @@
 //! A method's code (JVMS 4.7.3).
 
-ghost use Rattle.std.specs.Prelude.{◌≡◌, ◌≤◌, length, map, OnOk, IfOk};
-ghost use Rattle.jv_model.specs.Limits.{most_file_bytes};
-ghost use Rattle.jv_model.specs.StraightLine.{FollowEachOther, IsStraightLine};
-ghost use Rattle.jv_model.specs.Code.{placed_at, instructions_of, body_at, body_of as model_body_of};
+ghost use Rattle.std.specs.Prelude.{◌≡◌, ◌<◌, ◌^◌, length, map, OnOk, IfOk};
+ghost use Rattle.straight_line_model.specs.StraightLine.{FollowEachOther, IsStraightLine};
+ghost use Rattle.straight_line_model.specs.Code.{placed_at, instructions_of, body_at, body_of as model_body_of};
 ghost use Rattle.class_reader.specs.Body.{placed_of, body_of};
 ghost use Rattle.class_reader.specs.Gives.{GivesForm};
-ghost use Rattle.class_reader.specs.Input.{IsFurther};
+ghost use Rattle.jv_types.specs.Reading.{IsFurther};
 
 use super::body::{Body, Placed};
 use super::error::FormError;
@@ -14,18 +13,11 @@ use super::instruction::read_instruction;
 use super::number::u2_of;
 use super::operands::is_straight;
 use super::pool::Pool;
-use crate::input::Input;
-use jv_types::List;
+use jv_types::{Input, List, MOST_CODE_BYTES, MOST_FRAME_WORDS};
 use std::alloc::Global;
 
-/// The most words that a frame has for its locals and its stack.
-const MOST_FRAME_WORDS: u32 = 4096;
-
-/// The most bytes that the code of a method has (JVMS 4.7.3).
-const MOST_CODE_BYTES: u32 = 65_535;
-
 /// Reads an instruction and notes its place.
-#[tactic(auto, unfolding(jv_model::specs::Code::placed_at))]
+#[tactic(auto, unfolding(straight_line_model::specs::Code::placed_at))]
 fn read_placed(pool: &Pool, input: &mut Input) -> Result<Placed, FormError>
     ensures placed { GivesForm (λ placed. (placed_of placed, input.new)) result (placed_at pool.now input.old) }
     ensures pc { IfOk result (λ placed. placed.pc ≡ input.old.at) }
@@ -44,7 +36,7 @@ fn read_placed(pool: &Pool, input: &mut Input) -> Result<Placed, FormError>
 
 /// The instructions to the end of a code array.
 fn read_instructions(alloc: Global, pool: &Pool, code: &[u8]) -> Result<List<Placed>, FormError>
-    requires { length code.now ≤ most_file_bytes }
+    requires { length code.now < 2 ^ 32 }
     ensures instructions { GivesForm (λ instructions. map placed_of instructions.items) result
         (instructions_of pool.now code.now) }
     ensures places { IfOk result (λ instructions. FollowEachOther 0 (map placed_of instructions.items)) }
@@ -59,7 +51,7 @@ fn read_instructions(alloc: Global, pool: &Pool, code: &[u8]) -> Result<List<Pla
 }
 
 /// Reads the sizes, the code, no handlers and no attributes, to the end of the input.
-#[tactic(auto, unfolding(jv_model::specs::Code::body_at))]
+#[tactic(auto, unfolding(straight_line_model::specs::Code::body_at))]
 fn read_whole_body(alloc: Global, pool: &Pool, input: &mut Input) -> Result<Body, FormError>
     ensures body { GivesForm body_of result (body_at pool.now input.old) }
     ensures straight { IfOk result (λ body. IsStraightLine (body_of body)) }
@@ -90,7 +82,7 @@ fn read_whole_body(alloc: Global, pool: &Pool, input: &mut Input) -> Result<Body
 
 /// The body that a Code attribute's run of bytes spells.
 pub fn read_body(alloc: Global, pool: &Pool, bytes: &[u8]) -> Result<Body, FormError>
-    requires { length bytes.now ≤ most_file_bytes }
+    requires { length bytes.now < 2 ^ 32 }
     ensures body { GivesForm body_of result (model_body_of pool.now bytes.now) }
     ensures straight { IfOk result (λ body. IsStraightLine (body_of body)) }
 {

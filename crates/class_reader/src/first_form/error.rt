@@ -3,8 +3,7 @@
 ghost use Rattle.std.specs.Prelude.{◌≡◌};
 ghost use Rattle.class_reader.specs.declared.first_form.error.FormError.TheVariants as errors;
 
-use crate::cut::Cut;
-use jv_types::NoMemory;
+use jv_types::{Cut, NoMemory};
 
 /// Why a class file isn't read: the first item that isn't whole, or the first thing in a form that
 /// isn't built yet. An item is one number or one run of bytes (JVMS 4.1).

@@ -1,17 +1,16 @@
 //! The instructions of a code array (JVMS 6.5).
 
 ghost use Rattle.std.specs.Prelude.{◌≡◌, OnOk, option_map};
-ghost use Rattle.jv_model.specs.Code.{plain_instruction, plain_instruction_at, bipush_at, sipush_at, load_constant_at, get_static_at, invoke_virtual_at, operands_at, instruction_at, system_out, println_of_int};
+ghost use Rattle.straight_line_model.specs.Code.{plain_instruction, plain_instruction_at, bipush_at, sipush_at, load_constant_at, get_static_at, invoke_virtual_at, operands_at, instruction_at, system_out, println_of_int};
 ghost use Rattle.class_reader.specs.Body.{instruction_of};
 ghost use Rattle.class_reader.specs.Constant.{member_of};
 ghost use Rattle.class_reader.specs.Gives.{GivesForm};
-ghost use Rattle.class_reader.specs.Input.{IsFurther, IsNotBack};
+ghost use Rattle.jv_types.specs.Reading.{IsFurther, IsNotBack};
 
 use super::body::Instruction;
 use super::error::FormError;
 use super::pool::{Member, Pool};
-use crate::input::Input;
-use jv_types::IntOperation;
+use jv_types::{Input, IntOperation};
 
 const ICONST_M1: u8 = 2;
 
@@ -80,7 +79,7 @@ fn plain_instruction(opcode: u8) -> Option<Instruction>
     }
 }
 
-#[tactic(auto, unfolding(jv_model::specs::Code::plain_instruction_at))]
+#[tactic(auto, unfolding(straight_line_model::specs::Code::plain_instruction_at))]
 fn without_operands(opcode: u8, input: &Input) -> Result<Instruction, FormError>
     ensures { GivesForm (λ instruction. (instruction_of instruction, input.now)) result (plain_instruction_at opcode input.now) }
 {
@@ -91,7 +90,7 @@ fn without_operands(opcode: u8, input: &Input) -> Result<Instruction, FormError>
 }
 
 /// Reads the int of `bipush`.
-#[tactic(auto, unfolding(jv_model::specs::Code::bipush_at))]
+#[tactic(auto, unfolding(straight_line_model::specs::Code::bipush_at))]
 fn read_bipush(input: &mut Input) -> Result<Instruction, FormError>
     ensures instruction { GivesForm (λ instruction. (instruction_of instruction, input.new)) result (bipush_at input.old) }
     ensures on { OnOk result (IsNotBack input.old input.new) }
@@ -101,7 +100,7 @@ fn read_bipush(input: &mut Input) -> Result<Instruction, FormError>
 }
 
 /// Reads the int of `sipush`.
-#[tactic(auto, unfolding(jv_model::specs::Code::sipush_at))]
+#[tactic(auto, unfolding(straight_line_model::specs::Code::sipush_at))]
 fn read_sipush(input: &mut Input) -> Result<Instruction, FormError>
     ensures instruction { GivesForm (λ instruction. (instruction_of instruction, input.new)) result (sipush_at input.old) }
     ensures on { OnOk result (IsNotBack input.old input.new) }
@@ -111,7 +110,7 @@ fn read_sipush(input: &mut Input) -> Result<Instruction, FormError>
 }
 
 /// Reads the index of `ldc`, which has to be that of an Integer.
-#[tactic(auto, unfolding(jv_model::specs::Code::load_constant_at))]
+#[tactic(auto, unfolding(straight_line_model::specs::Code::load_constant_at))]
 fn read_ldc(pool: &Pool, input: &mut Input) -> Result<Instruction, FormError>
     ensures instruction { GivesForm (λ instruction. (instruction_of instruction, input.new)) result (load_constant_at pool.now 1 input.old) }
     ensures on { OnOk result (IsNotBack input.old input.new) }
@@ -124,7 +123,7 @@ fn read_ldc(pool: &Pool, input: &mut Input) -> Result<Instruction, FormError>
 }
 
 /// Reads the index of `ldc_w`, which has to be that of an Integer.
-#[tactic(auto, unfolding(jv_model::specs::Code::load_constant_at))]
+#[tactic(auto, unfolding(straight_line_model::specs::Code::load_constant_at))]
 fn read_ldc_w(pool: &Pool, input: &mut Input) -> Result<Instruction, FormError>
     ensures instruction { GivesForm (λ instruction. (instruction_of instruction, input.new)) result (load_constant_at pool.now 2 input.old) }
     ensures on { OnOk result (IsNotBack input.old input.new) }
@@ -137,7 +136,7 @@ fn read_ldc_w(pool: &Pool, input: &mut Input) -> Result<Instruction, FormError>
 }
 
 /// Reads the index of `getstatic`, which has to be that of `System.out`.
-#[tactic(auto, unfolding(jv_model::specs::Code::get_static_at))]
+#[tactic(auto, unfolding(straight_line_model::specs::Code::get_static_at))]
 fn read_get_static(pool: &Pool, input: &mut Input) -> Result<Instruction, FormError>
     ensures instruction { GivesForm (λ instruction. (instruction_of instruction, input.new)) result (get_static_at pool.now input.old) }
     ensures on { OnOk result (IsNotBack input.old input.new) }
@@ -150,7 +149,7 @@ fn read_get_static(pool: &Pool, input: &mut Input) -> Result<Instruction, FormEr
 }
 
 /// Reads the index of `invokevirtual`, which has to be that of `println`.
-#[tactic(auto, unfolding(jv_model::specs::Code::invoke_virtual_at))]
+#[tactic(auto, unfolding(straight_line_model::specs::Code::invoke_virtual_at))]
 fn read_invoke_virtual(pool: &Pool, input: &mut Input) -> Result<Instruction, FormError>
     ensures instruction { GivesForm (λ instruction. (instruction_of instruction, input.new)) result (invoke_virtual_at pool.now input.old) }
     ensures on { OnOk result (IsNotBack input.old input.new) }
@@ -179,7 +178,7 @@ fn read_operands(opcode: u8, pool: &Pool, input: &mut Input) -> Result<Instructi
 }
 
 /// Reads an instruction, which begins with its opcode.
-#[tactic(auto, unfolding(jv_model::specs::Code::instruction_at))]
+#[tactic(auto, unfolding(straight_line_model::specs::Code::instruction_at))]
 pub fn read_instruction(pool: &Pool, input: &mut Input) -> Result<Instruction, FormError>
     ensures instruction { GivesForm (λ instruction. (instruction_of instruction, input.new)) result (instruction_at pool.now input.old) }
     ensures on { OnOk result (IsFurther input.old input.new) }

@@ -1,11 +1,11 @@
 //! Numbers that have to be certain ones.
 
 ghost use Rattle.std.specs.Prelude.{◌==◌};
-ghost use Rattle.jv_model.specs.Input.{number_where};
+ghost use Rattle.straight_line_model.specs.Items.{number_where};
 ghost use Rattle.class_reader.specs.Gives.{GivesForm};
 
 use super::error::FormError;
-use crate::input::Input;
+use jv_types::Input;
 
 /// Reads a `u2`, which has to be this one.
 pub fn u2_of(input: &mut Input, wanted: u16) -> Result<(), FormError>

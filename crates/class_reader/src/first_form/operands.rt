@@ -1,7 +1,7 @@
 //! The types of the operands that code finds in its frame (JVMS 2.6.2).
 
 ghost use Rattle.std.specs.Prelude.{◌≡◌, [], IfOk, map};
-ghost use Rattle.jv_model.specs.StraightLine.{popped, dropped, types_after, is_straight};
+ghost use Rattle.straight_line_model.specs.StraightLine.{popped, dropped, types_after, is_straight};
 ghost use Rattle.class_reader.specs.Body.{instruction_of, placed_of};
 ghost use Rattle.class_reader.specs.Operands.{type_of, types_of, IsAfter};
 

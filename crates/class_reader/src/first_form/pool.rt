@@ -3,14 +3,13 @@
 ghost use Rattle.std.specs.Prelude.{◌≡◌, ◌-◌, ◌∷◌, [], map};
 ghost use Rattle.std.specs.List.{list_all};
 ghost use Rattle.std.specs.Option.{option_copied};
-ghost use Rattle.jv_model.specs.ConstantPool.{gap, is_plain, utf8_at, constant_at, constants_at, pool_at, entry_at, text_at, class_name_at, integer_at_index, is_text, has_name_and_type, is_member, names_field, names_method, names_right, is_utf8_entry, is_class_entry, is_name_and_type_entry};
+ghost use Rattle.straight_line_model.specs.ConstantPool.{gap, is_plain, utf8_at, constant_at, constants_at, pool_at, entry_at, text_at, class_name_at, integer_at_index, is_text, has_name_and_type, is_member, names_field, names_method, names_right, is_utf8_entry, is_class_entry, is_name_and_type_entry};
 ghost use Rattle.class_reader.specs.Constant.{constant_of, member_of};
 ghost use Rattle.class_reader.specs.Gives.{GivesForm};
 ghost use Rattle.jv_model.specs.Input.{in_front};
 
 use super::error::FormError;
-use crate::input::Input;
-use jv_types::List;
+use jv_types::{Input, List};
 use std::alloc::Global;
 use std::marker::Model;
 
@@ -58,7 +57,7 @@ fn is_plain(text: &[u8]) -> bool
     text.iter().all(|byte| (1..128).contains(byte))
 }
 
-#[tactic(auto, unfolding(jv_model::specs::ConstantPool::utf8_at))]
+#[tactic(auto, unfolding(straight_line_model::specs::ConstantPool::utf8_at))]
 fn read_utf8<'a>(input: &mut Input<'a>) -> Result<Constant<'a>, FormError>
     ensures { GivesForm (λ constant. (constant_of constant, input.new)) result (utf8_at input.old) }
 {
@@ -71,7 +70,7 @@ fn read_utf8<'a>(input: &mut Input<'a>) -> Result<Constant<'a>, FormError>
 }
 
 /// Reads an entry, which begins with its tag.
-#[tactic(auto, unfolding(jv_model::specs::ConstantPool::constant_at, jv_model::specs::ConstantPool::integer_at, jv_model::specs::ConstantPool::class_ref_at, jv_model::specs::ConstantPool::pair_at))]
+#[tactic(auto, unfolding(straight_line_model::specs::ConstantPool::constant_at, straight_line_model::specs::ConstantPool::integer_at, straight_line_model::specs::ConstantPool::class_ref_at, straight_line_model::specs::ConstantPool::pair_at))]
 fn read_constant<'a>(input: &mut Input<'a>) -> Result<Constant<'a>, FormError>
     ensures { GivesForm (λ constant. (constant_of constant, input.new)) result (constant_at input.old) }
 {
@@ -122,7 +121,7 @@ pub struct Pool<'a> {
 
 impl<'a> Model for Pool<'a> {
     ghost use Rattle.std.specs.Prelude.{List, map};
-    ghost use Rattle.jv_model.specs.ConstantPool.{Constant as ModelConstant};
+    ghost use Rattle.straight_line_model.specs.ConstantPool.{Constant as ModelConstant};
 
     ghost Value = { List ModelConstant };
 
@@ -133,7 +132,7 @@ impl<'a> Model for Pool<'a> {
 
 impl<'a> Pool<'a> {
     /// Reads a pool, each entry of which has to name entries of the kinds that it needs.
-    #[tactic(auto, unfolding(jv_model::specs::ConstantPool::pool_at))]
+    #[tactic(auto, unfolding(straight_line_model::specs::ConstantPool::pool_at))]
     pub fn read(alloc: Global, input: &mut Input<'a>) -> Result<Pool<'a>, FormError>
         ensures { GivesForm (λ pool. (pool, input.new)) result (pool_at input.old) }
     {

@@ -9,7 +9,8 @@ use Rattle.class_reader.proofs.constant_pool.read_entries.Given as goal
 abbrev pub invariant-loop-index : goal.invariant-loop-index
 invariant-loop-index l = record {
   index : l.index ≡ length l.entries.items;
-  so_far : in_front (pool_of l.entries.items) (entries_at l.index (l.end - l.index) l.input) ≡ in_front (gap ∷ []) (entries_at 1 (l.fn.count - 1) l.fn.input);
+  so_far : in_front (pool_of l.entries.items) (entries_at l.index (l.end - l.index) l.input)
+      ≡ in_front (gap ∷ []) (entries_at 1 (l.fn.count - 1) l.fn.input);
 }
 
 abbrev pub decreases-loop-index : goal.decreases-loop-index

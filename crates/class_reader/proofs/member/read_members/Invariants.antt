@@ -7,4 +7,6 @@ use Rattle.class_reader.proofs.member.read_members.Given as goal
 
 -- the members so far, and those that are still to be read
 abbrev pub invariant-loop : goal.invariant-loop
-invariant-loop l = in_front (members_of l.members.items) (members_at l.pool (kind_of l.kind) (l.count - l.counter) l.input) ≡ members_at l.pool (kind_of l.kind) l.count l.fn.input
+invariant-loop l = in_front (members_of l.members.items)
+    (members_at l.pool (kind_of l.kind) (l.count - l.counter) l.input)
+    ≡ members_at l.pool (kind_of l.kind) l.count l.fn.input

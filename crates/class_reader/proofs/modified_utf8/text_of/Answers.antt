@@ -1,5 +1,5 @@
 use Rattle.std.proofs.Common.{◌≡◌, eqb, length, true, false}
-use Rattle.class_reader.proofs.Units.{goes_on, fails, is_done, shorter}
+use Rattle.class_reader.proofs.Loops.Units.{goes_on, fails, is_done, shorter}
 use Rattle.class_reader.proofs.modified_utf8.text_of.Goals as goal
 
 pub loop-rest-preserved : goal.loop-rest-preserved

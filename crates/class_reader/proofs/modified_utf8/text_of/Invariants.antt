@@ -1,6 +1,6 @@
 use Rattle.std.proofs.Common.{◌≡◌, length}
 use Rattle.jv_model.specs.ModifiedUtf8.{units_of}
-use Rattle.class_reader.proofs.Units.{units_in_front}
+use Rattle.class_reader.proofs.Loops.Units.{units_in_front}
 use Rattle.class_reader.proofs.modified_utf8.text_of.Given as goal
 
 -- the units so far, and those that are still to be read

@@ -5,7 +5,8 @@ use Rattle.std.proofs.lemmas.Iterator.Search.{all_from_yields_List}
 use Rattle.class_reader.proofs.text.is_text.Goals as goal
 
 -- texts of one length are the same where each unit is
-same_units : (units text : List ℕ) → length units ≡ length text → list_all (λ pair. eqb pair.0 pair.1) (zip units text) ≡ bytes_eq units text
+same_units : (units text : List ℕ) → length units ≡ length text
+    → list_all (λ pair. eqb pair.0 pair.1) (zip units text) ≡ bytes_eq units text
 same_units [] [] long = refl
 same_units [] (byte ∷ text) long = absurd (omega arith)
 same_units (unit ∷ units) [] long = absurd (omega arith)
@@ -16,6 +17,8 @@ returns-then-units-text c =
     let units = c.args.units.now in
     let text = c.args.text.now in
     let long : length units ≡ length text = c.if-units-text.true in
-    let each = all_from_yields_List {s = c.zip.result} (λ (pair : ℕ × ℕ). eqb pair.0 pair.1) c.all.new.self _ c.all.result c.all.ensures.ran
-    (YieldsList-from_zip (YieldsList-from_slice units cc) (YieldsList-from_slice text cc)) (λ x b q k. search (rules, tests)) in
+    let each = all_from_yields_List {s = c.zip.result}
+    (λ (pair : ℕ × ℕ). eqb pair.0 pair.1) c.all.new.self _ c.all.result c.all.ensures.ran
+    (YieldsList-from_zip (YieldsList-from_slice units cc) (YieldsList-from_slice text cc))
+    (λ x b q k. search (rules, tests)) in
     each ∙ same_units units text long

@@ -7,4 +7,5 @@ use Rattle.class_writer.proofs.interface.write_interfaces.Goals as goal
 pub returns : goal.returns
 returns c =
     let indices = map-id c.args.interfaces.now.items in
-    rw (← indices) (subst (Appends c.write_table.result _ _ _) (plain_table _ _) c.write_table.ensures)
+    rw (← indices) (subst (Appends c.write_table.result _ _ _)
+    (plain_table _ _) c.write_table.ensures)

@@ -5,4 +5,5 @@ use Rattle.jv_types.proofs.duplicate.copy_list.Given as goal
 abbrev pub invariant-loop-item : goal.invariant-loop-item
 invariant-loop-item g l =
     let meaning = g.T.Duplicate.meaning in
-    map meaning l.copies.items ++ map meaning (drop l.item-index l.items.items) ≡ map meaning l.items.items
+    map meaning l.copies.items ++ map meaning (drop l.item-index l.items.items)
+    ≡ map meaning l.items.items

@@ -1,14 +1,24 @@
-use Rattle.std.proofs.Common.{Err, ap}
-use Rattle.jvolve_top.specs.Loads.{program}
-use Rattle.jvolve_top.proofs.OutcomeLemmas.{all_written, one_failed, no_memory_left}
+use Rattle.std.proofs.Common.{Some, refl, inl}
+use Rattle.jv_model.specs.End.{all_ended}
+use Rattle.jv_model.specs.Status.{ended}
+use Rattle.run_model.specs.Headline.{whole, cut, starved}
+use Rattle.jvolve_top.specs.Delivers.{texts_view}
 use Rattle.jvolve_top.proofs.call.run_program.Goals as goal
+use Rattle.jvolve_top.proofs.call.run_program.Goals.{in-Ok-deliver, in-Err-Failed, in-Err-NoMemory}
 
-pub returns-in-Ok-deliver : goal.returns-in-Ok-deliver
-returns-in-Ok-deliver g c = all_written (program c.args.body.now) c.in-Ok.made c.in-Ok.ensures _ c.in-Ok-deliver.ensures.order c.in-Ok-deliver.ensures.all
-
-pub returns-in-Err-Failed : goal.returns-in-Err-Failed
-returns-in-Err-Failed g c =
-    one_failed (program c.args.body.now) c.in-Ok.made c.in-Ok.ensures _ c.in-Err-Failed.ensures.order (c.in-Err-Failed.ensures.failed (ap Err c.in-Err-Failed.field-0-is))
-
+-- the run was made, and then written as far as the sinks and memory let it
 pub returns : goal.returns
-returns g c = no_memory_left (program c.args.body.now) c.in-Ok.made c.in-Ok.ensures _ c.deliver.ensures.order
+returns g c = λ words files. elim c.match-deliver.branch [
+  | in-Ok-deliver w ↦
+      rw w.status-is
+      (inl (whole (texts_view c.in-Ok.product.texts) c.in-Ok.ensures w.in-Ok-deliver.ensures))
+  | in-Err-Failed w ↦
+      rw w.status-is
+      (inl (cut (texts_view c.in-Ok.product.texts) (ended all_ended) c.in-Ok.ensures refl
+      (rw w.in-Err-Failed.field-0-is at w.in-Err-Failed.ensures)))
+  | in-Err-NoMemory w ↦
+      rw w.status-is
+      (inl (starved (texts_view c.in-Ok.product.texts) (Some (ended all_ended)) c.in-Ok.ensures
+      refl
+      (rw w.in-Err-NoMemory.field-0-is at w.in-Err-NoMemory.ensures)))
+]

@@ -1,46 +1,53 @@
-use Rattle.std.proofs.Common.{◌≡◌, ◌≤◌, ◌<◌, [], ◌∷◌, length, sym, ap, ◌∙◌, arith}
-use Rattle.jv_model.specs.Limits.{most_file_bytes}
-use Rattle.jv_model.specs.Manifest.{manifest_of}
-use Rattle.jv_model.specs.Load.{load_class}
+use Rattle.std.proofs.Common.{refl, ap}
+use Rattle.std.proofs.lemmas.Result.{err_from_is_err_and}
 use Rattle.jvolve_top.specs.Statements.{manifest_view, item_view, class_list}
-use Rattle.jvolve_top.proofs.LoadLemmas.{text_of_folder, long_text, item_of_folder, no_item_of_folder, fault_of_folder, loaded_through}
+use Rattle.jvolve_top.specs.Outside.{read}
+use Rattle.jvolve_top.proofs.LoadLemmas.{manifest_stops, manifest_is_faulty, manifest_lacks_class, manifest_goes_on}
 use Rattle.jvolve_top.proofs.load.load_manifest.Goals as goal
 
-pub returns-in-Err : goal.returns-in-Err
-returns-in-Err g c = record { outcome = c.in-Err.ensures.bytes _; later = c.in-Err.ensures.later }
+pub returns-in_err-text-clause-loaded : goal.returns-in_err-text-clause-loaded
+returns-in_err-text-clause-loaded g c =
+    let error = err_from_is_err_and c.from_residual.result c.from_residual.ensures.1 in
+    let files =
+    read g.F.Files.folder g.F.Files.asked g.F.Files.faults c.args.files.now
+    c.read_file.new.files in
+    rw (error.1, error.2) (manifest_stops c.args.name.now files _ c.in_err-text.ensures.loaded)
 
-pub returns-then-from-gt-MOST_FILE_BYTES : goal.returns-then-from-gt-MOST_FILE_BYTES
-returns-then-from-gt-MOST_FILE_BYTES g c =
-    let long : most_file_bytes < length c.in-Ok.text.items = omega arith in
-    record { outcome = long_text _ c.args.manifest.now c.in-Ok.text.items c.in-Ok.ensures.bytes long; later = c.in-Ok.ensures.later }
+pub returns-in_err-manifest-clause-loaded : goal.returns-in_err-manifest-clause-loaded
+returns-in_err-manifest-clause-loaded g c =
+    let residual = c.from_residual-in_err-manifest in
+    let error = err_from_is_err_and residual.result residual.ensures.1 in
+    let files =
+    read g.F.Files.folder g.F.Files.asked g.F.Files.faults c.args.files.now
+    c.read_file.new.files in
+    rw (error.1, error.2)
+    (manifest_is_faulty c.args.name.now files c.in_ok-text.text.items c.in_ok-text.ensures.loaded _
+    (rw c.as_slice.ensures at c.in_err-manifest.ensures))
 
-pub returns-in-Some : goal.returns-in-Some
-returns-in-Some g c =
-    let short : length c.in-Ok.text.items ≤ most_file_bytes = omega arith in
-    let manifest = manifest_view c.in-Ok-read_manifest.manifest in
-    let item = item_view c.in-Some.item in
-    let reads = ap manifest_of (sym c.as_slice.ensures) ∙ c.in-Ok-read_manifest.ensures in
-    let has : manifest.classes ≡ item ∷ [] = ap class_list c.in-Some.is in
-    loaded_through c.load_class.result _ _ _ _ _ (λ folder. load_class manifest item (folder item.file)) _ c.in-Ok.ensures.same c.in-Ok.ensures.later
-    (λ made tells. text_of_folder _ c.args.manifest.now c.in-Ok.text.items made c.in-Ok.ensures.bytes short (item_of_folder _ c.in-Ok.text.items manifest item made reads has tells))
-    c.load_class.ensures
+pub returns-in_default-clause-loaded : goal.returns-in_default-clause-loaded
+returns-in_default-clause-loaded g c =
+    let files =
+    read g.F.Files.folder g.F.Files.asked g.F.Files.faults c.args.files.now
+    c.read_file.new.files in
+    manifest_lacks_class c.args.name.now files c.in_ok-text.text.items c.in_ok-text.ensures.loaded
+    (manifest_view c.in_ok-manifest.manifest) (rw c.as_slice.ensures at c.in_ok-manifest.ensures)
+    (ap class_list c.in_default.is)
 
-pub returns-in-Ok-read_manifest : goal.returns-in-Ok-read_manifest
-returns-in-Ok-read_manifest g c =
-    let short : length c.in-Ok.text.items ≤ most_file_bytes = omega arith in
-    let manifest = manifest_view c.in-Ok-read_manifest.manifest in
-    let reads = ap manifest_of (sym c.as_slice.ensures) ∙ c.in-Ok-read_manifest.ensures in
-    let lacks : manifest.classes ≡ [] = ap class_list c.in-None.is in
-    record {
-      outcome = text_of_folder _ c.args.manifest.now c.in-Ok.text.items _ c.in-Ok.ensures.bytes short (no_item_of_folder _ c.in-Ok.text.items manifest reads lacks);
-      later = c.in-Ok.ensures.later;
-    }
-
-pub returns : goal.returns
-returns g c =
-    let short : length c.in-Ok.text.items ≤ most_file_bytes = omega arith in
-    let reads = ap manifest_of (sym c.as_slice.ensures) ∙ c.in-Err-read_manifest.ensures in
-    record {
-      outcome = text_of_folder _ c.args.manifest.now c.in-Ok.text.items _ c.in-Ok.ensures.bytes short (fault_of_folder _ c.in-Ok.text.items _ reads);
-      later = c.in-Ok.ensures.later;
-    }
+pub returns-clause-loaded : goal.returns-clause-loaded
+returns-clause-loaded g c =
+    let files =
+    read g.F.Files.folder g.F.Files.asked g.F.Files.faults c.args.files.now
+    c.read_file.new.files in
+    let files_then =
+    read g.F.Files.folder g.F.Files.asked g.F.Files.faults c.read_file.new.files
+    c.load_class.new.files in
+    manifest_goes_on c.args.name.now files c.in_ok-text.text.items c.in_ok-text.ensures.loaded
+    (manifest_view c.in_ok-manifest.manifest) (rw c.as_slice.ensures at c.in_ok-manifest.ensures)
+    (item_view c.in-Some.item)
+    files_then (record {
+      folder = c.in_ok-text.ensures.folder;
+      asked = refl;
+      faults =
+          refl;
+    }) c.load_class.result
+    (ap class_list c.in-Some.is) c.load_class.ensures.loaded

@@ -7,7 +7,9 @@ use Rattle.jvolve_top.proofs.RunLemmas.{IsUnderWay}
 use Rattle.jvolve_top.proofs.machine.run_to_end.Given as goal
 
 abbrev pub invariant-loop-rest : goal.invariant-loop-rest
-invariant-loop-rest l = IsUnderWay (program l.body) (entries_of l.journal.items) (map placed_of l.rest) (state l.machine)
+invariant-loop-rest l =
+    IsUnderWay (program l.body) (entries_of l.journal.items) (map placed_of l.rest)
+    (state l.machine)
 
 abbrev pub decreases-loop-rest : goal.decreases-loop-rest
 decreases-loop-rest l = length l.rest

@@ -1,7 +1,7 @@
 use Rattle.std.proofs.Common.{◌≡◌, true, false}
 use Rattle.jv_model.specs.Profile.{names_right}
 use Rattle.jv_types.specs.ClassData.{const_of}
-use Rattle.class_reader.proofs.Entries.{first_wrong-here, first_wrong-behind}
+use Rattle.class_reader.proofs.Loops.Entries.{first_wrong-here, first_wrong-behind}
 use Rattle.class_reader.proofs.constant_pool.Pool.first_wrong.Goals as goal
 
 pub returns-then-not-names_right : goal.returns-then-not-names_right

@@ -1,12 +1,13 @@
 use Rattle.std.proofs.Common.{◌≡◌, [], length, map}
-use Rattle.jv_model.specs.StraightLine.{is_straight}
+use Rattle.straight_line_model.specs.StraightLine.{is_straight}
 use Rattle.class_reader.specs.Body.{placed_of}
 use Rattle.class_reader.specs.Operands.{types_of}
 use Rattle.class_reader.proofs.first_form.operands.is_straight.Given as goal
 
 -- the types so far, and the instructions that are still to be looked at
 abbrev pub invariant-loop-first : goal.invariant-loop-first
-invariant-loop-first l = is_straight l.max_stack (types_of l.types) (map placed_of l.rest) ≡ is_straight l.max_stack [] (map placed_of l.instructions)
+invariant-loop-first l = is_straight l.max_stack (types_of l.types) (map placed_of l.rest)
+    ≡ is_straight l.max_stack [] (map placed_of l.instructions)
 
 abbrev pub decreases-loop-first : goal.decreases-loop-first
 decreases-loop-first l = length l.rest

@@ -7,6 +7,7 @@ use Rattle.jvolve_top.proofs.machine.Machine.run_slice.Given as goal
 -- the state so far, and the instructions that are still to be run
 abbrev pub invariant-loop-placed : goal.invariant-loop-placed
 invariant-loop-placed l = record {
-  so_far : after_all (map placed_of (drop l.placed-index l.slice)) (state l.self) ≡ after_all (map placed_of l.slice) (state l.fn.self);
+  so_far : after_all (map placed_of (drop l.placed-index l.slice)) (state l.self)
+      ≡ after_all (map placed_of l.slice) (state l.fn.self);
   runs : IsSome (after_all (map placed_of l.slice) (state l.fn.self));
 }

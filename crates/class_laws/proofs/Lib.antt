@@ -1,0 +1,11 @@
+pub mod Numbers
+pub mod Readers
+pub mod Counts
+pub mod ModifiedUtf8
+pub mod Constants
+pub mod Pool
+pub mod Items
+pub mod AttributeRules
+pub mod Attributes
+pub mod Members
+pub mod ClassFile

@@ -1,0 +1,16 @@
+-- the words of a call
+pub mod Invocation
+-- loading
+pub mod Loading
+pub mod Later
+pub mod LoadProgram
+-- runs
+pub mod Journal
+pub mod RoundRobin
+-- what a call comes to
+pub mod Work
+pub mod LoadWork
+pub mod Delivery
+pub mod Works
+pub mod Call
+pub mod Headline

@@ -1,0 +1,4 @@
+pub mod PrintedLemmas
+pub mod WordLemmas
+pub mod NumeralLemmas
+pub mod ReadLemmas

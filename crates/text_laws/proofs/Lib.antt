@@ -1,0 +1,4 @@
+pub mod Tests
+pub mod Lines
+pub mod Numerals
+pub mod Journals
