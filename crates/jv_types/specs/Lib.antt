@@ -4,6 +4,11 @@ pub mod Refusal
 pub mod End
 pub mod Status
 pub mod IntOperation
+pub mod Instruction
+pub mod Instructions
+pub mod Code
+pub mod Loaded
 pub mod ClassData
 pub mod Reading
 pub mod Lines
+pub mod Boot

@@ -1,8 +1,9 @@
 -- What an answer says about a reading of the definitions, and how far a reading came.
-use Rattle.std.specs.Prelude.{◌≡◌, ◌≤◌, ◌<◌, length, Option, Some, None, Result, Ok, Err}
+use Rattle.std.specs.Prelude.{◌≡◌, ◌≤◌, ◌<◌, ℕ, length, Option, Some, None, Result, Ok, Err}
 use Rattle.jv_types.specs.declared.input.Cut.{Cut}
 use Rattle.jv_model.specs.Refusal.{Cause, truncated}
-use Rattle.jv_model.specs.Input.{Input}
+use Rattle.jv_model.specs.Input.{Input, bytes_at}
+use Rattle.jv_model.specs.Fallible.{◌>>=◌}
 
 -- The refusal is what reading gives. Where an error is no refusal, as want of memory, it says
 -- nothing.
@@ -22,6 +23,11 @@ cut_refusal cut = Some (truncated cut.at)
 -- one item
 abbrev pub GivesItem : {X Y : Type 0} → (X → Y) → Result X Cut → Result Y Cause → Type 0
 GivesItem view answer read = Gives cut_refusal view answer read
+
+-- a run of so many bytes, as an input at its place, and the input behind it
+abbrev pub part_at : ℕ → Input → Result (Input × Input) Cause
+part_at count input =
+    bytes_at count input >>= λ run. Ok (record { at = input.at; bytes = run.0 }, run.1)
 
 -- ---- how far a reading came
 

@@ -2,7 +2,7 @@
 
 ghost use Rattle.std.specs.Prelude.{◌≡◌, ◌<◌, ◌+◌, ◌^◌, ◌==◌, length, IfOk, OnOk};
 ghost use Rattle.jv_model.specs.Input.{whole_of, number_at, bytes_at};
-ghost use Rattle.jv_types.specs.Reading.{GivesItem, IsFurther};
+ghost use Rattle.jv_types.specs.Reading.{GivesItem, IsFurther, part_at};
 
 use byteorder::{BigEndian, ByteOrder};
 use std::error::Error;
@@ -80,6 +80,15 @@ impl<'a> Input<'a> {
         self.at += count;
         self.bytes = rest;
         Ok(run)
+    }
+
+    /// The next run of so many bytes, to be read from its place on.
+    pub fn part(&mut self, count: u32) -> Result<Input<'a>, Cut>
+        ensures part { GivesItem (λ part. (part, self.new)) result (part_at count self.old) }
+    {
+        let at = self.at;
+        let bytes = self.run(count)?;
+        Ok(Input { at, bytes })
     }
 
     /// The next number of one byte, a `u1`.

@@ -1,5 +1,6 @@
 use super::*;
 use crate::text::units;
+use std::alloc::Global;
 use std::test::Fail;
 
 #[test]
@@ -109,6 +110,58 @@ fn class_data_are_copied(rt: HostRuntime) -> Result<(), Fail> {
     assert_eq!(rt;
         format!(in alloc; "{copy:?}")?,
         format!(in alloc; "{file:?}")?
+    );
+    Ok(())
+}
+
+/// One instruction, with a row of the exception table and a frame.
+fn endless(alloc: Global) -> Result<CodeBody, NoMemory> {
+    let mut instructions = Instructions::new(alloc);
+    instructions.push(Insn {
+        pc: 0,
+        next: 3,
+        instruction: Instruction::Goto(3),
+    })?;
+    let mut handlers = List::new(alloc);
+    handlers.push(Handler {
+        from: 0,
+        to: 3,
+        target: 3,
+        catch: Some(7),
+    })?;
+    let mut frames = List::new(alloc);
+    frames.push(MapFrame {
+        pc: 3,
+        locals: List::from_slice(alloc, &[MapType::Argument(0), MapType::Long])?,
+        stack: List::from_slice(alloc, &[MapType::Object(7)])?,
+    })?;
+    Ok(CodeBody {
+        max_stack: 1,
+        max_locals: 3,
+        instructions,
+        handlers,
+        frames,
+    })
+}
+
+#[test]
+fn instructions_are_found(rt: HostRuntime) -> Result<(), Fail> {
+    let instructions = endless(rt.alloc())?.instructions;
+    assert_eq!(rt; instructions.len(), 1);
+    assert_eq!(rt; instructions.number_at(0), Some(0));
+    assert_eq!(rt; instructions.number_at(1), None);
+    assert_eq!(rt; instructions.number_at(3), None);
+    Ok(())
+}
+
+#[test]
+fn code_is_copied(rt: HostRuntime) -> Result<(), Fail> {
+    let alloc = rt.alloc();
+    let body = endless(alloc)?;
+    let copy = body.copy(alloc)?;
+    assert_eq!(rt;
+        format!(in alloc; "{copy:?}")?,
+        format!(in alloc; "{body:?}")?
     );
     Ok(())
 }

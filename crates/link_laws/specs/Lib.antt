@@ -1,0 +1,5 @@
+pub mod Above
+pub mod FirstFound
+pub mod FirstFault
+pub mod Linked
+pub mod Laws
