@@ -1,0 +1,8 @@
+pub mod NumeralLemmas
+pub mod RangeLemmas
+pub mod WordLemmas
+pub mod DotLemmas
+pub mod RowLemmas
+pub mod ToldLemmas
+pub mod HexadecimalLemmas
+pub mod BarLemmas

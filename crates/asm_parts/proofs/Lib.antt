@@ -1,0 +1,5 @@
+pub mod BlockLemmas
+pub mod UnitLemmas
+pub mod FaultLemmas
+pub mod EntryLemmas
+pub mod PoolLemmas

@@ -1,0 +1,12 @@
+-- The fault is noted, or there is none.
+use Rattle.std.proofs.Common.{sym, ◌∙◌}
+use Rattle.jv_types.specs.Refusal.{line_kind_of}
+use Rattle.asm_parts.specs.Faults.{told_by}
+use Rattle.asm_parts.proofs.FaultLemmas.{unless-true, unless-false}
+use Rattle.asm_parts.proofs.fault.note_unless.Goals as goal
+
+pub returns-then-test : goal.returns-then-test
+returns-then-test c = sym (unless-true (told_by c.args.first.now) c.args.line (line_kind_of c.args.kind) c.args.test c.if-test.true)
+
+pub returns : goal.returns
+returns c = c.note.ensures ∙ sym (unless-false (told_by c.args.first.now) c.args.line (line_kind_of c.args.kind) c.args.test c.if-test.false)

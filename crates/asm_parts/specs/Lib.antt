@@ -1,0 +1,5 @@
+pub mod Faults
+pub mod Parts
+pub mod Sections
+pub mod Entries
+pub mod Pools

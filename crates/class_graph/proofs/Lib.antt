@@ -1,0 +1,4 @@
+pub mod Sets
+pub mod Traces
+pub mod Walks
+pub mod Steps

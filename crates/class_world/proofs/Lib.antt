@@ -1,0 +1,10 @@
+pub mod Infos
+pub mod Searches
+pub mod Orders
+pub mod Places
+pub mod Numbers
+pub mod Members
+pub mod LookUps
+pub mod Worlds
+pub mod Upwards
+pub mod FieldOrders

@@ -1,0 +1,2 @@
+pub mod MemberTable
+pub mod World

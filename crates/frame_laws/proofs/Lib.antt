@@ -1,0 +1,14 @@
+pub mod Taking
+pub mod Outcome
+pub mod Numbers
+pub mod Branching
+pub mod Locals
+pub mod Moving
+pub mod Stacking
+pub mod LocalSoundness
+pub mod Verified
+pub mod Subsumption
+pub mod Ordered
+pub mod Standing
+pub mod Onward
+pub mod Growing

@@ -1,0 +1,3 @@
+-- runs
+pub mod Journal
+pub mod RoundRobin

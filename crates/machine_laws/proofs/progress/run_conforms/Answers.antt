@@ -1,0 +1,5 @@
+use Rattle.machine_laws.proofs.Steps as laws
+use Rattle.machine_laws.proofs.progress.run_conforms.Goals as goal
+
+pub returns : goal.returns
+returns c = laws.run_conforms

@@ -1,0 +1,9 @@
+pub mod RowLemmas
+pub mod FoundLemmas
+pub mod Reading
+pub mod Following
+pub mod Forwarding
+pub mod CopyLemmas
+pub mod Collecting
+pub mod HeapLemmas
+pub mod Checking

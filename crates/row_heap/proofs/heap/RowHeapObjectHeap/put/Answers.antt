@@ -1,0 +1,28 @@
+use Rattle.std.proofs.Common.{◌≡◌, ℕ, ◌+◌, ◌-◌, ◌<◌, ◌≤◌, List, length, get_or, refl, sym, ap, subst, ◌∙◌, arith}
+use Rattle.std.specs.Prelude.{option_map, slice_get}
+use Rattle.std.proofs.lemmas.Option.{slice_get-get_or}
+use Rattle.heap_face.specs.declared.address.Addr.{Addr}
+use Rattle.heap_face.specs.Heap.{Stored, HeapState, object_of, contents_of, used_words, with_lock, with_word, with_new}
+use Rattle.row_heap.specs.Table.{table_words, with_lock as locked, with_word as rewritten}
+use Rattle.row_heap.proofs.HeapLemmas.{is_at, has_word, contents_are, word_within, state_changed, tables_changed, state_with_new, new_is_fresh, serials_with_new, words_with_new, used_in, is_sound}
+use Rattle.row_heap.proofs.heap.RowHeapObjectHeap.put.Goals as goal
+
+pub overflow_sub-a : goal.overflow_sub-a
+overflow_sub-a c = let at = has_word c.self.inside.present c.args.self.now c.args.a c.args.at c.self.view_is c.requires in omega (arith, at.some)
+
+pub put-requires-clause-place : goal.put-requires-clause-place
+put-requires-clause-place c = (has_word c.self.inside.present c.args.self.now c.args.a c.args.at c.self.view_is c.requires).place
+
+pub put-requires-clause-at : goal.put-requires-clause-at
+put-requires-clause-at c = word_within c.self.inside.present c.args.self.now c.args.a c.args.at (has_word c.self.inside.present c.args.self.now c.args.a c.args.at c.self.view_is c.requires) c.requires
+
+pub invariant_of-self : goal.invariant_of-self
+invariant_of-self c =
+    tables_changed c.self.inside c.put.new.self (c.args.a.0 - 1) (rewritten c.args.at c.args.w) c.self.invariant (λ o. refl) (λ o. refl)
+    c.put.ensures.objects c.put.ensures.half c.put.ensures.free
+
+pub returns : goal.returns
+returns c =
+    state_changed c.self.inside.present c.put.new.self c.args.a (rewritten c.args.at c.args.w) (has_word c.self.inside.present c.args.self.now c.args.a c.args.at c.self.view_is c.requires).some
+    c.put.ensures.objects c.put.ensures.half c.put.ensures.free
+    ∙ ap (with_word c.args.a c.args.at c.args.w) c.self.view_is
