@@ -1,0 +1,12 @@
+pub mod Table
+pub mod Offsets
+pub mod Descriptors
+pub mod Parameters
+pub mod Counts
+pub mod InstructionLists
+pub mod MapTables
+pub mod Starts
+pub mod FrameLists
+pub mod Stages
+pub mod Clauses
+mod Nearness

@@ -1,0 +1,13 @@
+pub mod Format
+pub mod Width
+pub mod Behind
+pub mod Gives
+pub mod Parameters
+pub mod Switch
+pub mod Instruction
+pub mod Near
+pub mod Parts
+pub mod Shape
+pub mod Frames
+pub mod Body
+pub mod Method
