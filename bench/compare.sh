@@ -1,12 +1,9 @@
 #!/usr/bin/env bash
 # Times the proved reader and writer beside a plain Rust one, on a class file of nearly 1 MiB.
 set -eu
-here=$(cd "$(dirname "$0")" && pwd)
-program=$here/../crates/class_bench/out/class_bench
+. "$(dirname "$0")/prepare.sh"
+prepare class_bench
 rounds=${1:-100}
-[ -x "$program" ] || { echo "compare: crates/class_bench isn't built yet: rt ci, or rt run there" >&2; exit 1; }
-folder=$(mktemp -d)
-trap 'rm -rf "$folder"' EXIT
 rustc --edition 2024 -O -o "$folder/plain" "$here/plain.rs"
 python3 "$here/large_class.py" "$folder/large.class" > /dev/null
 for command in "$folder/plain" "$program"; do

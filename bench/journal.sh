@@ -2,11 +2,8 @@
 # Times reading a journal, and reading and writing it, beside `wc -l -w` over the same file, at three
 # sizes. It prints milliseconds of the whole process, the least of five runs.
 set -u
-here=$(cd "$(dirname "$0")" && pwd)
-program=$here/../crates/journal_bench/out/journal_bench
-[ -x "$program" ] || { echo "journal: crates/journal_bench isn't built yet: rt ci, or rt run there" >&2; exit 1; }
-folder=$(mktemp -d)
-trap 'rm -rf "$folder"' EXIT
+. "$(dirname "$0")/prepare.sh"
+prepare journal_bench
 milliseconds() {
   local least= from to took
   for _ in 1 2 3 4 5; do

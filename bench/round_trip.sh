@@ -2,11 +2,8 @@
 # Reads and writes every class file of the folders and jars that are given, and counts those that come
 # back as the same bytes. Files of another major version than 51 and 52 are refused as such.
 set -u
-here=$(cd "$(dirname "$0")" && pwd)
-program=$here/../crates/class_bench/out/class_bench
-[ -x "$program" ] || { echo "round_trip: crates/class_bench isn't built yet: rt ci, or rt run there" >&2; exit 1; }
-folder=$(mktemp -d)
-trap 'rm -rf "$folder"' EXIT
+. "$(dirname "$0")/prepare.sh"
+prepare class_bench
 same=0 version=0 failed=0
 while IFS= read -r -d '' file; do
   size=$(stat -c %s "$file")
