@@ -4,17 +4,6 @@
 set -u
 . "$(dirname "$0")/prepare.sh"
 prepare journal_bench
-milliseconds() {
-  local least= from to took
-  for _ in 1 2 3 4 5; do
-    from=$(date +%s%N)
-    "$@" > "$folder/said" || exit 1
-    to=$(date +%s%N)
-    took=$(((to - from) / 1000000))
-    if [ -z "$least" ] || [ "$took" -lt "$least" ]; then least=$took; fi
-  done
-  echo "$least"
-}
 for size in 16 32 64; do
   python3 "$here/journal.py" "$folder/journal" "$size"
   words=$(milliseconds wc -l -w "$folder/journal")

@@ -4,21 +4,10 @@
 import struct
 import sys
 
+from class_file import attribute, u2, u4, utf8, write
+
 ENTRIES = 65_534
 MEMBERS = 1_000
-LIMIT = 1_048_576
-
-
-def u2(*numbers):
-    return b"".join(struct.pack(">H", number) for number in numbers)
-
-
-def utf8(text):
-    return b"\x01" + u2(len(text)) + text
-
-
-def attribute(name, contents):
-    return u2(name) + struct.pack(">I", len(contents)) + contents
 
 
 def main():
@@ -36,18 +25,10 @@ def main():
     names = range(10, 10 + 2 * MEMBERS, 2)
     value = attribute(5, u2(7))
     # `return`, without handlers and attributes
-    code = attribute(8, u2(0, 1) + struct.pack(">I", 1) + b"\xb1" + u2(0, 0))
+    code = attribute(8, u2(0, 1) + u4(1) + b"\xb1" + u2(0, 0))
     fields = [u2(8, name, 6, 1) + value for name in names]
     methods = [u2(8, name, 9, 1) + code for name in names]
-    whole = b"".join([
-        struct.pack(">IHHH", 0xCAFEBABE, 0, 52, ENTRIES + 1), *pool,
-        u2(33, 2, 4, 1, 11),
-        u2(len(fields)), *fields, u2(len(methods)), *methods, u2(0),
-    ])
-    assert len(whole) <= LIMIT, len(whole)
-    with open(sys.argv[1], "wb") as file:
-        file.write(whole)
-    print(len(whole), "bytes")
+    write(sys.argv[1], pool, [11], fields, methods)
 
 
 main()

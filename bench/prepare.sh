@@ -7,3 +7,29 @@ prepare() {
   folder=$(mktemp -d)
   trap 'rm -rf "$folder"' EXIT
 }
+# The class files of the folders and jars that are given, each name ended by a zero byte.
+class_files() {
+  local place into
+  for place in "$@"; do
+    if [ -d "$place" ]; then
+      find "$place" -name '*.class' -print0
+    else
+      into=$folder/$(basename "$place")
+      mkdir -p "$into" && unzip -qo "$place" '*.class' -d "$into" 2> /dev/null
+      find "$into" -name '*.class' -print0
+    fi
+  done
+}
+# The milliseconds that a command takes as a whole process, the least of five runs. What it said is in
+# the file `said` of the folder.
+milliseconds() {
+  local least= from to took
+  for _ in 1 2 3 4 5; do
+    from=$(date +%s%N)
+    "$@" > "$folder/said" || exit 1
+    to=$(date +%s%N)
+    took=$(((to - from) / 1000000))
+    if [ -z "$least" ] || [ "$took" -lt "$least" ]; then least=$took; fi
+  done
+  echo "$least"
+}

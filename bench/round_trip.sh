@@ -12,16 +12,6 @@ while IFS= read -r -d '' file; do
     *": Read(Version "*) version=$((version + 1)) ;;
     *) failed=$((failed + 1)); echo "not the same: $file" ;;
   esac
-done < <(
-  for place in "$@"; do
-    if [ -d "$place" ]; then
-      find "$place" -name '*.class' -print0
-    else
-      into=$folder/$(basename "$place")
-      mkdir -p "$into" && unzip -qo "$place" '*.class' -d "$into" 2> /dev/null
-      find "$into" -name '*.class' -print0
-    fi
-  done
-)
+done < <(class_files "$@")
 echo "$same the same, $version of another version, $failed not the same"
 [ "$failed" -eq 0 ]

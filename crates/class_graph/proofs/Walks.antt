@@ -10,27 +10,11 @@ use Rattle.std.proofs.lemmas.List.Folds.{list_all_at}
 use Rattle.std.proofs.lemmas.Map.Keys.{IsDistinct-push}
 use Rattle.std.proofs.lemmas.Map.Steps.{length-le_from_distinct_below}
 use Rattle.class_graph.specs.Graph.{is_in, children_at, are_inside, IsGraph, Reaches, here, further, once, IsUnfolding, IsPreorder}
+use Rattle.class_graph.proofs.Passing.{and_left, and_right, list_all-get_or}
 use Rattle.class_graph.proofs.Sets.{in_none, in_head, in_tail, in_cons, in_cases, in_left, in_right, in_filter, not_in}
 use Rattle.class_graph.proofs.Traces.{IsTrace, trace_begins, trace_skips, trace_grows}
 
 -- ---- nodes that are there
-
-and_left : (a b : Bool) → (a && b) ≡ true → a ≡ true
-and_left true b both = refl
-and_left false b both = both
-
-and_right : (a b : Bool) → (a && b) ≡ true → b ≡ true
-and_right true b both = both
-and_right false b both = absurd (false≢true both)
-
--- an item of a list of which all pass does
-pub list_all-get_or : {A : Type 0} (p : A → Bool) (xs : List A) (i : ℕ) (d : A) → IsTrue (list_all p xs) → i < length xs
-    → IsTrue (p (get_or xs i d))
-list_all-get_or p xs i d all inside = by (p (get_or xs i d)) refl
-  where
-    by : (b : Bool) → p (get_or xs i d) ≡ b → p (get_or xs i d) ≡ true
-    by true passes = passes
-    by false fails = absurd (true≢false (sym all ∙ list_all_at p xs i d inside fails))
 
 pub inside_of : (n : ℕ) (xs : List ℕ) (z : ℕ) → IsTrue (are_inside n xs) → IsTrue (is_in xs z) → z < n
 inside_of n [] z all h = absurd (in_none z h)

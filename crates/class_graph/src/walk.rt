@@ -1,7 +1,7 @@
 //! A walk from a node on, each node before those to which it leads.
 
-ghost use Rattle.std.specs.Prelude.{◌≡◌, ◌<◌, ◌++◌, length, map, IfOk, OnOk};
-ghost use Rattle.class_graph.specs.Graph.{IsGraph, IsPreorder};
+ghost use Rattle.std.specs.Prelude.{◌≡◌, ◌<◌, ◌++◌, [], length, map, IfOk, OnOk};
+ghost use Rattle.class_graph.specs.Graph.{IsGraph, IsPreorder, once};
 
 use indexmap::IndexSet;
 use jv_types::{List, NoMemory, OperandStack};
@@ -39,4 +39,16 @@ pub fn preorder(alloc: Global, graph: &[List<u32>], start: u32) -> Result<List<u
     }
     let nodes = List::from_slice(alloc, met.as_slice())?;
     Ok(nodes)
+}
+
+/// Some numbers, each where it first stands. It fails only for want of memory.
+pub fn each_once(alloc: Global, numbers: &[u32]) -> Result<List<u32>, NoMemory>
+    ensures { IfOk result (λ list. list.items ≡ once [] numbers.now) }
+{
+    let mut met = IndexSet::new(alloc);
+    for number in numbers {
+        let _ = met.insert(*number)?;
+    }
+    let list = List::from_slice(alloc, met.as_slice())?;
+    Ok(list)
 }

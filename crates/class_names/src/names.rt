@@ -5,7 +5,7 @@ ghost use Rattle.std.specs.List.{IsDistinct, list_any};
 ghost use Rattle.class_names.specs.Distinct.{with_item};
 
 use indexmap::IndexSet;
-use jv_types::{NoMemory, Text};
+use jv_types::NoMemory;
 use std::alloc::Global;
 use std::marker::Model;
 
@@ -58,19 +58,19 @@ impl Names {
     }
 
     /// The number of a text, where it is one of them.
-    pub fn number_of(&self, text: &Text) -> Option<u32>
-        ensures number { result ≡ position (bytes_eq text.now.items) self.now }
-        ensures found { is_some result ≡ list_any (bytes_eq text.now.items) self.now }
+    pub fn number_of(&self, text: &[u16]) -> Option<u32>
+        ensures number { result ≡ position (bytes_eq text.now) self.now }
+        ensures found { is_some result ≡ list_any (bytes_eq text.now) self.now }
     {
-        let number = self.texts.get_index_of(text.as_slice())?;
+        let number = self.texts.get_index_of(text)?;
         Some(number as u32)
     }
 
     /// The number of a text, which is added at the end where it wasn't one of them. Where there is
     /// no memory or no number for it, they stay.
-    pub fn add(&mut self, alloc: Global, text: &Text) -> Result<u32, NoMemory>
-        ensures ok { OnOk result (self.new ≡ with_item bytes_eq self.old text.now.items) }
-        ensures number { IfOk result (λ n. slice_get self.new n ≡ Some text.now.items) }
+    pub fn add(&mut self, alloc: Global, text: &[u16]) -> Result<u32, NoMemory>
+        ensures ok { OnOk result (self.new ≡ with_item bytes_eq self.old text.now) }
+        ensures number { IfOk result (λ n. slice_get self.new n ≡ Some text.now) }
         ensures err { OnErr result (self.new ≡ self.old) }
     {
         if let Some(number) = self.number_of(text) {
@@ -80,7 +80,7 @@ impl Names {
             return Err(NoMemory);
         }
         let mut copy = Vec::new(alloc);
-        copy.extend_from_slice(text.as_slice())?;
+        copy.extend_from_slice(text)?;
         let (number, _) = self.texts.insert_full(copy)?;
         Ok(number as u32)
     }

@@ -8,11 +8,14 @@ fn names_have_their_numbers(rt: HostRuntime) -> Result<(), Fail> {
     // Each text, and its number.
     let cases = [("run", 0), ("()V", 1), ("run", 0), ("", 2), ("()V", 1)];
     for (text, number) in cases {
-        assert_eq!(rt; names.add(rt.alloc(), &units(rt.alloc(), text)?)?, number);
+        assert_eq!(rt;
+            names.add(rt.alloc(), units(rt.alloc(), text)?.as_slice())?,
+            number
+        );
     }
     assert_eq!(rt; names.len(), 3);
-    assert_eq!(rt; names.number_of(&units(rt.alloc(), "")?), Some(2));
-    assert_eq!(rt; names.number_of(&units(rt.alloc(), "ru")?), None);
+    assert_eq!(rt; names.number_of(&[]), Some(2));
+    assert_eq!(rt; names.number_of(units(rt.alloc(), "ru")?.as_slice()), None);
     Ok(())
 }
 

@@ -22,6 +22,37 @@ use Rattle.class_world.proofs.Places.{stands_inside, text_at_place, bytes_eq-pla
 use Rattle.class_world.proofs.Numbers.{number, name_of, class_in-position}
 use Rattle.class_world.proofs.Upwards.{plain, own_place, rows_of_infos}
 
+-- ---- unfoldings that list every node
+
+-- what a child unfolds to is a part
+pub shorter : (unfold_of : ℕ → List ℕ) (nodes : List ℕ) (child : ℕ) → IsTrue (is_in nodes child)
+    → length (unfold_of child) ≤ length (flat_map unfold_of nodes)
+shorter unfold_of [] child h = absurd (in_none child h)
+shorter unfold_of (node ∷ nodes) child h =
+    let sizes = length-append (unfold_of node) (flat_map unfold_of nodes) in
+    elim (in_cons node nodes child h) [
+      | inl same ↦ let equal = ap (λ (n : ℕ). length (unfold_of n)) same in omega (arith, sizes, equal)
+      | inr rest ↦ let less = shorter unfold_of nodes child rest in omega (arith, sizes, less)
+    ]
+
+pub keeps_all : (nodes : List ℕ) → filter (λ _. true) nodes ≡ nodes
+keeps_all [] = refl
+keeps_all (node ∷ nodes) = ap (λ (l : List ℕ). node ∷ l) (keeps_all nodes)
+
+-- where each node unfolds to itself and then what its children do, a walk lists what its start unfolds to
+pub walk_lists : (graph : List (List ℕ)) (unfold_of : ℕ → List ℕ)
+    → ((node : ℕ) → node < length graph → unfold_of node ≡ node ∷ flat_map unfold_of (children_at graph node))
+    → (start : ℕ) (nodes : List ℕ) → IsPreorder graph start nodes → nodes ≡ once [] (unfold_of start)
+walk_lists graph unfold_of own start nodes walk =
+    let is : IsUnfolding graph (λ _. true) unfold_of (λ (n : ℕ). length (unfold_of n)) = record {
+      unfolds = own;
+      falls = λ node child inside step.
+          let less = shorter unfold_of (children_at graph node) child step in
+          let whole = ap (λ (l : List ℕ). length l) (own node inside) in
+          omega (arith, less, whole);
+    } in
+    sym (keeps_all nodes) ∙ walk.ordered (λ _. true) unfold_of (λ (n : ℕ). length (unfold_of n)) is
+
 module _ (world : model.World) (distinct : IsDistinct bytes_eq (names_of world)) where
   -- ---- each once, by name and by number
 
@@ -56,7 +87,7 @@ module _ (world : model.World) (distinct : IsDistinct bytes_eq (names_of world))
       (λ i. equal i || same m k found_m i) ∙ or_last (k == n) (is_in numbers k)
       ∙ sym (list_any-append (λ j. k == j) numbers (n ∷ []))
 
-  once-numbers : (names seen : List (List ℕ)) (numbers : List ℕ) → AreSeen seen numbers
+  pub once-numbers : (names seen : List (List ℕ)) (numbers : List ℕ) → AreSeen seen numbers
       → plain (numbers_of world (each_once seen names)) ≡ once numbers (plain (numbers_of world names))
   unfolding each_once once
   once-numbers [] seen numbers same = refl
@@ -89,7 +120,7 @@ module _ (world : model.World) (distinct : IsDistinct bytes_eq (names_of world))
 
   -- ---- what doesn't hang on the fuel
 
-  no_class : (name : List ℕ) → position (bytes_eq name) (names_of world) ≡ None → class_in world name ≡ None
+  pub no_class : (name : List ℕ) → position (bytes_eq name) (names_of world) ≡ None → class_in world name ≡ None
   no_class name absent = class_in-position world name ∙ ap (option_and_then (slice_get world.classes)) absent
 
   -- a name without a class leads nowhere
@@ -102,7 +133,7 @@ module _ (world : model.World) (distinct : IsDistinct bytes_eq (names_of world))
       ++ flat_map (field_order_within fuel world) (flat_map (λ (c : model.Class). option_to_list c.superclass) (option_to_list o)))) (no_class name absent)
       ∙ ap (λ (o : Option ℕ). cons_option (option_map number o) []) absent
 
-  not_there : (name : List ℕ) → is_there world name ≡ false → position (bytes_eq name) (names_of world) ≡ None
+  pub not_there : (name : List ℕ) → is_there world name ≡ false → position (bytes_eq name) (names_of world) ≡ None
   not_there name absent = by (position (bytes_eq name) (names_of world)) refl
     where
       by : (o : Option ℕ) → position (bytes_eq name) (names_of world) ≡ o → position (bytes_eq name) (names_of world) ≡ None
@@ -114,7 +145,7 @@ module _ (world : model.World) (distinct : IsDistinct bytes_eq (names_of world))
           let found = class_in-position world name ∙ ap (option_and_then (slice_get world.classes)) is ∙ class.1 in
           absurd (true≢false (rw found at absent))
 
-  leads_alike : (one other : List ℕ → List (List ℕ)) (names : List (List ℕ))
+  pub leads_alike : (one other : List ℕ → List (List ℕ)) (names : List (List ℕ))
       → ((name : List ℕ) → IsTrue (has names name) → numbers_of world (one name) ≡ numbers_of world (other name))
       → numbers_of world (flat_map one names) ≡ numbers_of world (flat_map other names)
   leads_alike one other [] alike = refl
@@ -151,38 +182,45 @@ module _ (world : model.World) (distinct : IsDistinct bytes_eq (names_of world))
   abbrev unfolding_of : ℕ → List ℕ
   unfolding_of k = plain (numbers_of world (all_of (name_at world (number k))))
 
+  -- what a name leads to, by its number
+  abbrev pub lead_of : (List ℕ → List (List ℕ)) → ℕ → List ℕ
+  lead_of lead k = plain (numbers_of world (lead (name_at world (number k))))
+
   -- the lists to which names lead are those to which their numbers lead
-  numbers_lead : (names : List (List ℕ)) → numbers_of world (flat_map all_of names)
-      ≡ flat_map (λ (c : ClassNo). numbers_of world (all_of (name_at world c))) (numbers_of world names)
-  numbers_lead [] = refl
-  numbers_lead (name ∷ names) =
-      filter_map-append (number_of world) (all_of name) (flat_map all_of names)
-      ∙ by (position (bytes_eq name) (names_of world)) refl (numbers_lead names)
-    where
-      leads : ClassNo → List ClassNo
-      leads c = numbers_of world (all_of (name_at world c))
+  module _ (lead : List ℕ → List (List ℕ))
+      (missing : (name : List ℕ) → position (bytes_eq name) (names_of world) ≡ None → numbers_of world (lead name) ≡ []) where
+    numbers_lead : (names : List (List ℕ)) → numbers_of world (flat_map lead names)
+        ≡ flat_map (λ (c : ClassNo). numbers_of world (lead (name_at world c))) (numbers_of world names)
+    numbers_lead [] = refl
+    numbers_lead (name ∷ names) =
+        filter_map-append (number_of world) (lead name) (flat_map lead names)
+        ∙ by (position (bytes_eq name) (names_of world)) refl (numbers_lead names)
+      where
+        by : (o : Option ℕ) → position (bytes_eq name) (names_of world) ≡ o
+            → numbers_of world (flat_map lead names) ≡ flat_map (λ (c : ClassNo). numbers_of world (lead (name_at world c))) (numbers_of world names)
+            → numbers_of world (lead name) ++ numbers_of world (flat_map lead names)
+            ≡ flat_map (λ (c : ClassNo). numbers_of world (lead (name_at world c))) (cons_option (option_map number (position (bytes_eq name) (names_of world))) (numbers_of world names))
+        by None is rest =
+            ap (λ (l : List ClassNo). l ++ numbers_of world (flat_map lead names)) (missing name is)
+            ∙ rest
+            ∙ sym (ap (λ (o : Option ℕ). flat_map (λ (c : ClassNo). numbers_of world (lead (name_at world c))) (cons_option (option_map number o) (numbers_of world names))) is)
+        by (Some k) is rest =
+            let at = text_at_place (names_of world) name k is in
+            ap (λ (n : List ℕ). numbers_of world (lead n) ++ numbers_of world (flat_map lead names)) at.1
+            ∙ ap (λ (l : List ClassNo). numbers_of world (lead (name_at world (number k))) ++ l) rest
+            ∙ sym (ap (λ (o : Option ℕ). flat_map (λ (c : ClassNo). numbers_of world (lead (name_at world c))) (cons_option (option_map number o) (numbers_of world names))) is)
 
-      by : (o : Option ℕ) → position (bytes_eq name) (names_of world) ≡ o
-          → numbers_of world (flat_map all_of names) ≡ flat_map (λ (c : ClassNo). numbers_of world (all_of (name_at world c))) (numbers_of world names)
-          → numbers_of world (all_of name) ++ numbers_of world (flat_map all_of names)
-          ≡ flat_map (λ (c : ClassNo). numbers_of world (all_of (name_at world c))) (cons_option (option_map number (position (bytes_eq name) (names_of world))) (numbers_of world names))
-      by None is rest =
-          ap (λ (l : List ClassNo). l ++ numbers_of world (flat_map all_of names)) (missing_order (length world.classes) name is)
-          ∙ rest
-          ∙ sym (ap (λ (o : Option ℕ). flat_map (λ (c : ClassNo). numbers_of world (all_of (name_at world c))) (cons_option (option_map number o) (numbers_of world names))) is)
-      by (Some k) is rest =
-          let at = text_at_place (names_of world) name k is in
-          ap (λ (n : List ℕ). numbers_of world (all_of n) ++ numbers_of world (flat_map all_of names)) at.1
-          ∙ ap (λ (l : List ClassNo). numbers_of world (all_of (name_at world (number k))) ++ l) rest
-          ∙ sym (ap (λ (o : Option ℕ). flat_map (λ (c : ClassNo). numbers_of world (all_of (name_at world c))) (cons_option (option_map number o) (numbers_of world names))) is)
+    plain_leads : (classes : List ClassNo) → plain (flat_map (λ (c : ClassNo). numbers_of world (lead (name_at world c))) classes)
+        ≡ flat_map (lead_of lead) (plain classes)
+    plain_leads [] = refl
+    plain_leads (c ∷ classes) =
+        map-append (λ (k : ClassNo). k.0) (numbers_of world (lead (name_at world c)))
+        (flat_map (λ (c : ClassNo). numbers_of world (lead (name_at world c))) classes)
+        ∙ ap (λ (l : List ℕ). plain (numbers_of world (lead (name_at world c))) ++ l) (plain_leads classes)
 
-  plain_leads : (classes : List ClassNo) → plain (flat_map (λ (c : ClassNo). numbers_of world (all_of (name_at world c))) classes)
-      ≡ flat_map unfolding_of (plain classes)
-  plain_leads [] = refl
-  plain_leads (c ∷ classes) =
-      map-append (λ (k : ClassNo). k.0) (numbers_of world (all_of (name_at world c)))
-      (flat_map (λ (c : ClassNo). numbers_of world (all_of (name_at world c))) classes)
-      ∙ ap (λ (l : List ℕ). plain (numbers_of world (all_of (name_at world c))) ++ l) (plain_leads classes)
+    pub leads_by_number : (names : List (List ℕ))
+        → plain (numbers_of world (flat_map lead names)) ≡ flat_map (lead_of lead) (plain (numbers_of world names))
+    leads_by_number names = ap plain (numbers_lead names) ∙ plain_leads (numbers_of world names)
 
   module _ (acyclic : (n : List ℕ) → IsAbove world n n → ⊥) where
     unfolds_by : (most : ℕ) → length world.classes ≡ suc most → (k : ClassNo) → k.0 < length world.classes
@@ -203,8 +241,7 @@ module _ (world : model.World) (distinct : IsDistinct bytes_eq (names_of world))
         ∙ ap (λ (l : List ClassNo). k.0 ∷ plain l)
         (leads_alike (field_order_within most world) all_of above
         (λ m h. sym (more_fuel most (length world.classes) m (ends m (swapped name m h)) (omega (arith, is)))))
-        ∙ ap (λ (l : List ClassNo). k.0 ∷ plain l) (numbers_lead above)
-        ∙ ap (λ (l : List ℕ). k.0 ∷ l) (plain_leads (numbers_of world above))
+        ∙ ap (λ (l : List ℕ). k.0 ∷ l) (leads_by_number all_of (missing_order (length world.classes)) above)
 
     unfolds : (k : ClassNo) → k.0 < length world.classes
         → unfolding_of k.0
@@ -216,19 +253,6 @@ module _ (world : model.World) (distinct : IsDistinct bytes_eq (names_of world))
         by zero is = absurd (omega (arith, inside, is))
         by (suc most) is = unfolds_by most is k inside
 
-    shorter : (nodes : List ℕ) (child : ℕ) → IsTrue (is_in nodes child) → length (unfolding_of child) ≤ length (flat_map unfolding_of nodes)
-    shorter [] child h = absurd (in_none child h)
-    shorter (node ∷ nodes) child h =
-        let sizes = length-append (unfolding_of node) (flat_map unfolding_of nodes) in
-        elim (in_cons node nodes child h) [
-          | inl same ↦ let equal = ap (λ (n : ℕ). length (unfolding_of n)) same in omega (arith, sizes, equal)
-          | inr rest ↦ let less = shorter nodes child rest in omega (arith, sizes, less)
-        ]
-
-    keeps_all : (nodes : List ℕ) → filter (λ _. true) nodes ≡ nodes
-    keeps_all [] = refl
-    keeps_all (node ∷ nodes) = ap (λ (l : List ℕ). node ∷ l) (keeps_all nodes)
-
     -- A walk from a class lists its field order.
     pub walk_is_field_order : (graph : List (List ℕ)) → length graph ≡ length world.classes
         → ((k : ClassNo) → k.0 < length world.classes → children_at graph k.0
@@ -239,19 +263,12 @@ module _ (world : model.World) (distinct : IsDistinct bytes_eq (names_of world))
         λ node inside.
         let here : node < length world.classes = omega (arith, inside, sizes) in
         unfolds (number node) here ∙ ap (λ (l : List ℕ). node ∷ flat_map unfolding_of l) (sym (rows (number node) here)) in
-        let is : IsUnfolding graph (λ _. true) unfolding_of (λ (n : ℕ). length (unfolding_of n)) = record {
-          unfolds = own;
-          falls = λ node child inside step.
-              let less = shorter (children_at graph node) child step in
-              let whole = ap (λ (l : List ℕ). length l) (own node inside) in
-              omega (arith, less, whole);
-        } in
-        sym (keeps_all nodes) ∙ walk.ordered (λ _. true) unfolding_of (λ (n : ℕ). length (unfolding_of n)) is
+        walk_lists graph unfolding_of own k.0 nodes walk
         ∙ sym (once-numbers (all_of (name_at world k)) [] [] (λ name j found. refl))
 
 -- ---- of a list of classes
 
-numbers_of_plain : (classes : List ClassNo) → map number (plain classes) ≡ classes
+pub numbers_of_plain : (classes : List ClassNo) → map number (plain classes) ≡ classes
 numbers_of_plain [] = refl
 numbers_of_plain (c ∷ classes) = ap (λ (l : List ClassNo). c ∷ l) (numbers_of_plain classes)
 

@@ -1,6 +1,6 @@
 pub mod Infos
 pub mod Searches
-pub mod Orders
+pub mod StoredOrders
 pub mod Places
 pub mod Numbers
 pub mod Members
@@ -8,3 +8,7 @@ pub mod LookUps
 pub mod Worlds
 pub mod Upwards
 pub mod FieldOrders
+pub mod MethodOrders
+pub mod Spelling
+pub mod Declaring
+pub mod Filling

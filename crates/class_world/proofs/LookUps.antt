@@ -12,7 +12,7 @@ use Rattle.world_model.specs.LookUp.{first_declared}
 use Rattle.jv_types.specs.declared.number.ClassNo.{ClassNo}
 use Rattle.class_world.specs.MemberTable.{Members, order_at, first_with}
 use Rattle.class_world.specs.World.{names_of, name_at, numbers_of, spelled, is_spelled, signature_of, IsTable}
-use Rattle.class_world.proofs.Searches.{list_all-get_or}
+use Rattle.class_graph.proofs.Passing.{list_all-get_or}
 use Rattle.class_world.proofs.Places.{some-position, slice_get-position, stands_inside, text_at_place, test_by_number, test_of_none}
 use Rattle.class_world.proofs.Numbers.{first_declared-numbers, name_at_place}
 use Rattle.class_world.proofs.Members.{IsTestOf, both, has_signature, position-signature, place_of, first_with-numbered, first_numbered-none, length-filter_map}
@@ -46,7 +46,7 @@ find-none : {A : Type 0} (o : Option ℕ) (f : ℕ → Option A) (found : Option
 find-none o f None same none = refl
 find-none o f (Some x) same none = cc (ap (option_map f) none)
 
-inside_from_at : {A : Type 0} (xs : List A) (k : ℕ) (x : A) → slice_get xs k ≡ Some x → k < length xs
+pub inside_from_at : {A : Type 0} (xs : List A) (k : ℕ) (x : A) → slice_get xs k ≡ Some x → k < length xs
 inside_from_at xs k x at = elim ((slice_get_cases xs k).1) [ inl w ↦ w.1 | inr w ↦ cc ]
 
 -- ---- signatures
@@ -147,7 +147,7 @@ module _ {M : Type 0} (world : model.World) (texts : List (List ℕ)) (distinct 
         ∙ slice_get-position (λ (m : M). has_signature name descriptor (sign m)) (members class)
         ∙ sym (ap (option_map Some) (declares k class at))
 
-    finds_signature : (name_place descriptor_place : Option ℕ) (signature : Signature)
+    pub finds_signature : (name_place descriptor_place : Option ℕ) (signature : Signature)
         → position (bytes_eq name) texts ≡ name_place → position (bytes_eq descriptor) texts ≡ descriptor_place
         → signature_at name_place descriptor_place ≡ Some signature
         → (k : ℕ) (class : model.Class) → slice_get world.classes k ≡ Some class
@@ -158,6 +158,14 @@ module _ {M : Type 0} (world : model.World) (texts : List (List ℕ)) (distinct 
         (sym (both-same name_place descriptor_place signature is))
         ∙ finds_own (is_number name_place) (is_number descriptor_place) (number_test texts distinct name name_place name_is)
         (number_test texts distinct descriptor descriptor_place descriptor_is) k class at
+
+    -- the member that a class declares itself
+    pub own_by_signature : (signature : Signature) → signature_of texts name descriptor ≡ Some signature
+        → (k : ℕ) (class : model.Class) → slice_get world.classes k ≡ Some class
+        → option_map (slice_get (members class)) (position (same_signature signature) (get_or table.declared k []))
+        ≡ option_map Some (declared class)
+    own_by_signature signature is =
+        finds_signature (position (bytes_eq name) texts) (position (bytes_eq descriptor) texts) signature refl refl is
 
     -- what is found by number
     pub found_by_number : (signature : Signature) → signature_of texts name descriptor ≡ Some signature
@@ -172,18 +180,22 @@ module _ {M : Type 0} (world : model.World) (texts : List (List ℕ)) (distinct 
         (numbers_of world (order (name_at world class))) (numbers_inside world (order (name_at world class)))
         ∙ sym (ap (option_map Some) (first_declared-numbers declared world (order (name_at world class))))
 
-    -- where a text has no number, no member has it
-    pub none_by_number : signature_of texts name descriptor ≡ None → (names : List (List ℕ))
-        → first_declared declared world names ≡ None
-    none_by_number is names =
+    -- where a text has no number, no class declares a member of it
+    pub none_declared : signature_of texts name descriptor ≡ None → (k : ℕ) (class : model.Class) → slice_get world.classes k ≡ Some class
+        → declared class ≡ None
+    none_declared is k class at =
         let name_place = position (bytes_eq name) texts in
         let descriptor_place = position (bytes_eq descriptor) texts in
-        first_declared-numbers declared world names
-        ∙ first_numbered-none declared world.classes
-        (λ k class at. find-none (position (both (is_number name_place) (is_number descriptor_place)) (get_or table.declared k []))
+        find-none (position (both (is_number name_place) (is_number descriptor_place)) (get_or table.declared k []))
         (slice_get (members class)) (declared class)
         (finds_own (is_number name_place) (is_number descriptor_place) (number_test texts distinct name name_place refl)
         (number_test texts distinct descriptor descriptor_place refl) k class at)
         (position-fails (both (is_number name_place) (is_number descriptor_place)) (get_or table.declared k [])
-        (both-none name_place descriptor_place is)))
-        (numbers_of world names)
+        (both-none name_place descriptor_place is))
+
+    -- where a text has no number, no member has it
+    pub none_by_number : signature_of texts name descriptor ≡ None → (names : List (List ℕ))
+        → first_declared declared world names ≡ None
+    none_by_number is names =
+        first_declared-numbers declared world names
+        ∙ first_numbered-none declared world.classes (none_declared is) (numbers_of world names)

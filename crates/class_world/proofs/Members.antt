@@ -10,7 +10,8 @@ use Rattle.world_model.specs.LookUp.{Found, found_or}
 use Rattle.jv_types.specs.declared.number.ClassNo.{ClassNo}
 use Rattle.class_world.specs.MemberTable.{at_or, first_with}
 use Rattle.class_world.specs.World.{spelled, is_spelled}
-use Rattle.class_world.proofs.Places.{and_left, and_right, stands_inside, position-congr}
+use Rattle.class_graph.proofs.Passing.{and_left, and_right}
+use Rattle.class_world.proofs.Places.{stands_inside, position-congr}
 use Rattle.class_world.proofs.Numbers.{found_at, first_numbered}
 
 -- a number passes the test exactly where the text of that number is the text

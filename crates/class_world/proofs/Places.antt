@@ -1,22 +1,15 @@
 -- Places of what passes a test, and texts by their places.
-use Rattle.std.proofs.Common.{◌≡◌, ◌≢◌, ◌+◌, ℕ, ◌<◌, ◌≤◌, ◌==◌, Bool, true, false, not, ◌&&◌, ◌||◌, cond, List, [], ◌∷◌, Option, Some, None, length, position, slice_get, get_or, nat_lt, bytes_eq, find, option_map, option_and_then, is_some, IsTrue, inl, inr, ap, sym, ◌∙◌, refl, true≢false, arith}
+use Rattle.std.proofs.Common.{◌≡◌, ◌≢◌, ◌+◌, ℕ, ◌<◌, ◌≤◌, ◌==◌, Bool, true, false, not, ◌||◌, cond, List, [], ◌∷◌, Option, Some, None, length, position, slice_get, get_or, nat_lt, bytes_eq, find, option_map, option_and_then, is_some, IsTrue, inl, inr, ap, sym, ◌∙◌, refl, true≢false, arith}
 use Rattle.std.specs.List.{list_any, list_all, prefix_len, position_or_len, IsDistinct}
 use Rattle.std.proofs.lemmas.List.Folds.{find_at, list_any_at}
 use Rattle.std.proofs.lemmas.List.Quantifiers.{position-Some}
 use Rattle.std.proofs.lemmas.Option.{slice_get_past, slice_get_cases}
-use Rattle.std.proofs.lemmas.Bool.{false≢true, cases_lt}
+use Rattle.std.proofs.lemmas.Bool.{cases_lt}
 use Rattle.std.proofs.lemmas.Bool.Decides.{Decides-ltb, Decides-eqb}
 use Rattle.std.proofs.lemmas.Cmp.{nat_list_eq_equiv}
 use Rattle.std.proofs.lemmas.Slice.Eq.{bytes_eq-Decides}
 use Rattle.std.proofs.lemmas.Map.Keys.{apart_from_distinct}
-
-pub and_left : (a b : Bool) → (a && b) ≡ true → a ≡ true
-and_left true b both = refl
-and_left false b both = both
-
-pub and_right : (a b : Bool) → (a && b) ≡ true → b ≡ true
-and_right true b both = both
-and_right false b both = absurd (false≢true both)
+use Rattle.class_graph.proofs.Passing.{and_left, and_right}
 
 past_from_test : (k n : ℕ) → nat_lt k n ≡ false → n ≤ k
 past_from_test k n past =

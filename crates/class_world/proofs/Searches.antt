@@ -1,25 +1,16 @@
 -- Steps of searches through lists.
-use Rattle.std.proofs.Common.{◌≡◌, ℕ, ◌+◌, ◌<◌, ◌≤◌, ◌==◌, ◌||◌, Bool, true, false, map, List, [], ◌∷◌, Option, None, IsTrue, length, get_or, drop, position, nat_lt, ap, sym, ◌∙◌, refl, true≢false}
-use Rattle.std.specs.List.{list_all, list_any}
+use Rattle.std.proofs.Common.{◌≡◌, ℕ, ◌+◌, ◌<◌, ◌≤◌, ◌==◌, ◌||◌, Bool, false, map, List, [], ◌∷◌, Option, None, IsTrue, length, get_or, drop, position, nat_lt, ap, sym, ◌∙◌, refl}
+use Rattle.std.specs.List.{list_any}
 use Rattle.std.proofs.lemmas.List.{at_drop_more, at_drop_all, get_or-map}
 use Rattle.std.proofs.lemmas.Cmp.{nat_eq_equiv}
 use Rattle.class_graph.specs.Graph.{is_in, are_inside, leads_to}
-use Rattle.std.proofs.lemmas.List.Folds.{list_all_at}
+use Rattle.class_graph.proofs.Passing.{list_all-get_or}
 use Rattle.std.proofs.lemmas.Option.{get_or_from_slice_get, slice_get_read}
 use Rattle.std.proofs.lemmas.Bool.Decides.{Decides-ltb}
 use Rattle.jv_types.specs.declared.number.ClassNo.{ClassNo}
 use Rattle.class_names.specs.declared.signatures.Signature.{Signature}
 use Rattle.class_names.specs.Distinct.{same_signature}
 use Rattle.class_world.specs.MemberTable.{is_order, at_or, first_with}
-
--- an item of a list of which all pass does
-pub list_all-get_or : {A : Type 0} (p : A → Bool) (xs : List A) (i : ℕ) (d : A) → IsTrue (list_all p xs) → i < length xs
-    → IsTrue (p (get_or xs i d))
-list_all-get_or p xs i d all inside = by (p (get_or xs i d)) refl
-  where
-    by : (b : Bool) → p (get_or xs i d) ≡ b → p (get_or xs i d) ≡ true
-    by true passes = passes
-    by false fails = absurd (true≢false (sym all ∙ list_all_at p xs i d inside fails))
 
 -- an item that was read, whatever stands for those past the end
 pub get_or-read : {A : Type 0} (xs : List A) (i : ℕ) (x d : A) → i < length xs → x ≡ get_or xs i x → get_or xs i d ≡ x

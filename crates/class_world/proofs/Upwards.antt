@@ -55,11 +55,11 @@ numbers-option world (Some name) = by (number_of world name)
     by None = refl
     by (Some c) = refl
 
-list_all-map : {A B : Type 0} (p : B → Bool) (f : A → B) (xs : List A) → list_all p (map f xs) ≡ list_all (λ x. p (f x)) xs
+pub list_all-map : {A B : Type 0} (p : B → Bool) (f : A → B) (xs : List A) → list_all p (map f xs) ≡ list_all (λ x. p (f x)) xs
 list_all-map p f [] = refl
 list_all-map p f (x ∷ xs) = λ i. p (f x) && list_all-map p f xs i
 
-list_all-from_get_or : {A : Type 0} (p : A → Bool) (xs : List A) (d : A) → ((i : ℕ) → i < length xs → p (get_or xs i d) ≡ true)
+pub list_all-from_get_or : {A : Type 0} (p : A → Bool) (xs : List A) (d : A) → ((i : ℕ) → i < length xs → p (get_or xs i d) ≡ true)
     → IsTrue (list_all p xs)
 list_all-from_get_or p [] d each = refl
 list_all-from_get_or p (x ∷ xs) d each =
@@ -91,7 +91,7 @@ module _ (world : model.World) (distinct : IsDistinct bytes_eq (names_of world))
   count k inside = omega (arith, inside, length-map world.classes name_of)
 
   -- the class of a number has its name
-  class_in-number : (k : ClassNo) → k.0 < length world.classes → class_in world (name_at world k) ≡ slice_get world.classes k.0
+  pub class_in-number : (k : ClassNo) → k.0 < length world.classes → class_in world (name_at world k) ≡ slice_get world.classes k.0
   class_in-number k inside =
       class_in-position world (name_at world k)
       ∙ ap (option_and_then (slice_get world.classes)) (own_place (names_of world) distinct k.0 (count k.0 inside))

@@ -1,5 +1,5 @@
 -- What a `World` finds is what the definitions find in its world.
-use Rattle.std.proofs.Common.{◌≡◌, ℕ, ◌<◌, ◌≤◌, ◌==◌, Bool, false, List, Option, Some, None, length, slice_get, bytes_eq, find, option_map, reverse, if◌then◌else◌, ap, sym, subst, ◌∙◌, refl}
+use Rattle.std.proofs.Common.{◌≡◌, ℕ, ◌<◌, ◌≤◌, ◌==◌, Bool, false, List, [], Option, Some, None, length, map, position, get_or, slice_get, bytes_eq, find, option_map, reverse, if◌then◌else◌, ap, sym, subst, ◌∙◌, refl, arith}
 use Rattle.std.specs.List.{list_any, IsDistinct}
 use Rattle.std.proofs.lemmas.Option.{slice_get-map}
 use Rattle.class_names.specs.declared.signatures.Signature.{Signature}
@@ -12,10 +12,13 @@ use Rattle.class_world.specs.MemberTable.{Members, order_at, first_with}
 use Rattle.class_world.specs.declared.class_info.ClassInfo.{ClassInfo}
 use Rattle.class_world.specs.declared.class_info.Origin.{Origin}
 use Rattle.class_world.specs.declared.class_info.Origin.TheVariants.{Boot, Program}
-use Rattle.class_world.specs.World.{class_of_origin, names_of_infos, world_of_infos, name_at, signature_of, field_signature, method_signature, IsWorld}
+use Rattle.class_world.specs.World.{class_of_origin, names_of_infos, world_of_infos, name_at, signature_of, field_signature, method_signature, spelled, IsWorld}
 use Rattle.class_world.proofs.Numbers.{list_any-numbers}
 use Rattle.class_world.proofs.Members.{has_signature, place_of}
-use Rattle.class_world.proofs.LookUps.{order_at-numbers, length-order_at, found_by_number, none_by_number}
+use Rattle.class_world.proofs.LookUps.{order_at-numbers, length-order_at, found_by_number, none_by_number, none_declared, own_by_signature}
+use Rattle.class_world.proofs.Places.{stands_inside}
+use Rattle.class_names.specs.Distinct.{same_signature}
+use Rattle.std.proofs.lemmas.List.{length-map}
 
 abbrev pub fields_of : model.Class → List model.Field
 fields_of class = class.fields
@@ -109,3 +112,45 @@ module _ (infos : List ClassInfo) (names texts : List (List ℕ)) (fields method
       (ap (list_any (λ (c : ClassNo). above.0 == c.0))
       (order_at-numbers world texts is.texts_apart (field_order world) field_signature fields_of fields is.field_table class here)
       ∙ sym (list_any-numbers world (subst (IsDistinct bytes_eq) is.names_are is.names_apart) above above_here (field_order world (name_at world class))))
+
+  -- ---- what a class declares itself
+
+  pub class_there : (c : model.Class) × (slice_get self.classes class.0 ≡ Some c)
+  class_there = stands_inside self.classes class.0 inside
+
+  pub tables_there : class.0 < length methods.declared
+  tables_there =
+      let world = world_of_infos infos in
+      let called = λ (c : model.Class). map method_signature c.methods in
+      omega (
+        arith,
+        here,
+        length-map methods.declared (map (spelled texts)),
+        length-map world.classes called,
+        ap (λ (l : List (List (List ℕ × List ℕ))). length l) is.method_table.declared,
+      )
+
+  pub own_by_number : (name descriptor : List ℕ) (signature : Signature) → Some signature ≡ signature_of texts name descriptor
+      → (found : Option ℕ) → found ≡ position (same_signature signature) (get_or methods.declared class.0 [])
+      → (c : model.Class) × (slice_get self.classes class.0 ≡ Some c) × (option_map (slice_get c.methods) found ≡ option_map Some (declared_method name descriptor c))
+  own_by_number name descriptor signature is_signature found is_found =
+      let world = world_of_infos infos in
+      let at : slice_get world.classes class.0 ≡ Some class_there.0 = ap (λ (w : model.World). slice_get w.classes class.0) view_is ∙ class_there.1 in (
+        class_there.0,
+        class_there.1,
+        ap (option_map (slice_get class_there.0.methods)) is_found
+            ∙ own_by_signature world texts is.texts_apart (method_order world) method_signature methods_of methods is.method_table
+            name descriptor (declared_method name descriptor) (λ k c at. refl) signature (sym is_signature) class.0 class_there.0 at,
+      )
+
+  pub none_own : (name descriptor : List ℕ) → None ≡ signature_of texts name descriptor → (found : Option ℕ) → found ≡ None
+      → (c : model.Class) × (slice_get self.classes class.0 ≡ Some c) × (option_map (slice_get c.methods) found ≡ option_map Some (declared_method name descriptor c))
+  none_own name descriptor is_none found is_found =
+      let world = world_of_infos infos in
+      let at : slice_get world.classes class.0 ≡ Some class_there.0 = ap (λ (w : model.World). slice_get w.classes class.0) view_is ∙ class_there.1 in (
+        class_there.0,
+        class_there.1,
+        ap (option_map (slice_get class_there.0.methods)) is_found
+            ∙ sym (ap (option_map Some) (none_declared world texts is.texts_apart (method_order world) method_signature methods_of methods is.method_table
+            name descriptor (declared_method name descriptor) (λ k c at. refl) (sym is_none) class.0 class_there.0 at)),
+      )

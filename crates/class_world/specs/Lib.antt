@@ -1,2 +1,4 @@
 pub mod MemberTable
 pub mod World
+pub mod Hierarchy
+pub mod Signatures

@@ -14,6 +14,10 @@ pub record Members : Type 0 where
 abbrev pub order_at : Members → ℕ → List ClassNo
 order_at members class = get_or members.orders class []
 
+-- the signatures of a class's own members
+abbrev pub own_at : Members → ℕ → List Signature
+own_at members class = get_or members.declared class []
+
 -- the classes of an order are there
 abbrev pub is_order : List (List Signature) → List ClassNo → Bool
 is_order declared order = list_all (λ (c : ClassNo). nat_lt c.0 (length declared)) order

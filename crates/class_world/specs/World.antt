@@ -1,9 +1,10 @@
 -- Which world of the definitions a `World` is: numbers against names.
-use Rattle.std.specs.Prelude.{◌≡◌, ℕ, List, [], ◌∷◌, ◌++◌, Bool, false, Option, Some, length, map, position, slice_get, get_or, bytes_eq, IsTrue, nat_lt, option_map, option_and_then, option_to_list}
+use Rattle.std.specs.Prelude.{◌≡◌, ℕ, List, [], ◌∷◌, ◌++◌, Bool, false, not, Option, Some, length, map, position, slice_get, get_or, bytes_eq, IsTrue, nat_lt, option_map, option_and_then, option_to_list}
 use Rattle.std.specs.List.{list_all, filter_map, IsDistinct}
 use Rattle.world_model.specs.World as model
 use Rattle.world_model.specs.Supertypes.{field_order, method_order}
 use Rattle.world_model.specs.LookUp.{Found}
+use Rattle.link_model.specs.ClassFaults.{has_member_twice}
 use Rattle.link_model.specs.SupertypeFaults.{is_cyclic}
 use Rattle.link_model.specs.WorldOf as linking
 use Rattle.jv_types.specs.Boot.{numbered_class_of, named_class_of}
@@ -63,6 +64,14 @@ pub record AreInfos (infos : List ClassInfo) : Type 0 where
       → IsInfo (world_of_infos infos) (class_of_origin (names_of_infos infos) info.origin) info
   pub names_apart : IsDistinct bytes_eq (names_of (world_of_infos infos))
 
+-- an order of names for each class, by numbers
+abbrev pub orders_of : model.World → (List ℕ → List (List ℕ)) → List (List ClassNo)
+orders_of world order = map (λ (c : model.Class). numbers_of world (order c.name)) world.classes
+
+-- no class has two members that are the same
+abbrev pub HaveMembersOnce : model.World → Type 0
+HaveMembersOnce world = IsTrue (list_all (λ (c : model.Class). not (has_member_twice c)) world.classes)
+
 -- no class of the world is above itself
 abbrev pub IsAcyclic : model.World → Type 0
 IsAcyclic world = (name : List ℕ) → is_cyclic world name ≡ false
@@ -96,7 +105,7 @@ method_signature method = (method.name, method.descriptor)
 -- A table has the members that each class declares, and the order in which they are looked for.
 pub record IsTable (world : model.World) (texts : List (List ℕ)) (order : List ℕ → List (List ℕ))
     (signatures : model.Class → List (List ℕ × List ℕ)) (members : Members) : Type 0 where
-  pub orders : members.orders ≡ map (λ (c : model.Class). numbers_of world (order c.name)) world.classes
+  pub orders : members.orders ≡ orders_of world order
   pub declared : map (map (spelled texts)) members.declared ≡ map signatures world.classes
   pub within : IsTrue (list_all (list_all (is_spelled texts)) members.declared)
 

@@ -1,7 +1,8 @@
 //! Which members the classes of a world declare, and in which order classes are looked at.
 
-ghost use Rattle.std.specs.Prelude.{◌≡◌, ◌+◌, ◌<◌, ◌≤◌, length, IsTrue};
-ghost use Rattle.class_world.specs.MemberTable.{order_at, is_order, first_with};
+ghost use Rattle.std.specs.Prelude.{◌≡◌, ◌+◌, ◌<◌, ◌≤◌, length, map, position, IsTrue};
+ghost use Rattle.class_names.specs.Distinct.{same_signature};
+ghost use Rattle.class_world.specs.MemberTable.{order_at, own_at, is_order, first_with, IsWithin};
 
 use class_names::{Signature, Signatures};
 use jv_types::{ClassNo, List, Steps};
@@ -52,6 +53,17 @@ fn first_declaring<L: Ledger>(
 }
 
 impl MemberTable {
+    /// The table of these orders and these members.
+    pub fn new(orders: List<List<ClassNo>>, declared: List<Signatures>) -> MemberTable
+        requires { IsWithin (map (λ order. order.items) orders.items) declared.items }
+        ensures { result ≡ record {
+          orders = map (λ order. order.items) orders.items;
+          declared = declared.items;
+        } }
+    {
+        MemberTable { orders, declared }
+    }
+
     /// The classes in which a member of a class is looked for, in order.
     pub fn order(&self, class: ClassNo) -> &[ClassNo]
         requires { class.0 < length self.now.orders }
@@ -79,5 +91,13 @@ impl MemberTable {
             signature,
             steps,
         )
+    }
+
+    /// The index of the member of a class itself that has the signature.
+    pub fn own(&self, class: ClassNo, signature: Signature) -> Option<u32>
+        requires { class.0 < length self.now.declared }
+        ensures { result ≡ position (same_signature signature) (own_at self.now class.0) }
+    {
+        self.declared.get(class.0).number_of(signature)
     }
 }

@@ -6,12 +6,12 @@ ghost use Rattle.jv_types.specs.declared.number.ClassNo.{ClassNo};
 ghost use Rattle.class_world.specs.World.{signature_of};
 
 use class_names::{Names, Signature};
-use jv_types::{ClassNo, Steps, Text};
+use jv_types::{ClassNo, Steps};
 use std::sync::ledger::Ledger;
 
 /// The numbers of a name and of a descriptor, where both are among some texts.
-pub fn signature(texts: &Names, name: &Text, descriptor: &Text) -> Option<Signature>
-    ensures { result ≡ signature_of texts.now name.now.items descriptor.now.items }
+pub fn signature(texts: &Names, name: &[u16], descriptor: &[u16]) -> Option<Signature>
+    ensures { result ≡ signature_of texts.now name.now descriptor.now }
 {
     Some(Signature {
         name: texts.number_of(name)?,

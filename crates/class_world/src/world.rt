@@ -1,14 +1,18 @@
 //! A world of classes by number.
 
-ghost use Rattle.std.specs.Prelude.{◌≡◌, ◌+◌, ◌<◌, ◌≤◌, Some, length, option_map, slice_get};
+ghost use Rattle.std.specs.Prelude.{◌≡◌, ◌+◌, ◌<◌, ◌≤◌, Some, length, option_map, slice_get, IfOk};
+ghost use Rattle.world_model.specs.World.{declared_method};
 ghost use Rattle.world_model.specs.Supertypes.{field_order, method_order, is_sub as is_sub_of};
 ghost use Rattle.world_model.specs.LookUp.{find_field as field_found, find_method as method_found};
 
 use crate::class_info::{ClassInfo, FieldPlace};
 use crate::member_table::MemberTable;
+use crate::orders::{field_orders, method_orders};
 use crate::search::{is_among, signature};
+use crate::signatures::declare_members;
 use class_names::Names;
-use jv_types::{ClassNo, List, MethodNo, Steps, Text};
+use jv_types::{ClassNo, List, MethodNo, NoMemory, Steps, Text};
+use std::alloc::Global;
 use std::marker::Model;
 use std::sync::ledger::Ledger;
 
@@ -38,6 +42,30 @@ impl Model for World {
 
 impl World {
     ghost use Rattle.class_world.specs.World.{number_of, name_at, IsInfo, field_at, method_at};
+    ghost use Rattle.class_world.specs.World.{AreInfos, IsAcyclic, HaveMembersOnce, names_of, world_of_infos};
+
+    /// The world of some classes. Each has the numbers of its supertypes, no class is above itself,
+    /// and no class has two fields or two methods of one name and descriptor. It fails only for
+    /// want of memory.
+    pub fn of(alloc: Global, names: Names, classes: List<ClassInfo>) -> Result<World, NoMemory>
+        requires infos { AreInfos classes.items }
+        requires names { names ≡ names_of (world_of_infos classes.items) }
+        requires acyclic { IsAcyclic (world_of_infos classes.items) }
+        requires once { HaveMembersOnce (world_of_infos classes.items) }
+        ensures { IfOk result (λ world. world ≡ world_of_infos classes.items) }
+    {
+        let mut texts = Names::new(alloc);
+        let declared = declare_members(alloc, &mut texts, classes.as_slice())?;
+        let field_orders = field_orders(alloc, classes.as_slice())?;
+        let method_orders = method_orders(alloc, classes.as_slice())?;
+        Ok(World {
+            fields: MemberTable::new(field_orders, declared.fields),
+            methods: MemberTable::new(method_orders, declared.methods),
+            classes,
+            names,
+            texts,
+        })
+    }
 
     /// The number of classes.
     pub fn classes(&self) -> u32
@@ -49,6 +77,13 @@ impl World {
     /// The class of a name, where it's there.
     pub fn find_class(&self, name: &Text) -> Option<ClassNo>
         ensures { result ≡ number_of self.now name.now.items }
+    {
+        self.class_named(name.as_slice())
+    }
+
+    /// The class of a name that is lent as its units, where it's there.
+    pub fn class_named(&self, name: &[u16]) -> Option<ClassNo>
+        ensures { result ≡ number_of self.now name.now }
     {
         self.names.number_of(name).map(ClassNo)
     }
@@ -90,6 +125,24 @@ impl World {
         ensures steps { steps.new
             ≤ steps.old + length (field_order self.now (name_at self.now class)) }
     {
+        self.field_named(class, name.as_slice(), descriptor.as_slice(), steps)
+    }
+
+    /// The same of a name and a descriptor that are lent as their units.
+    pub fn field_named<L: Ledger>(
+        &self,
+        class: ClassNo,
+        name: &[u16],
+        descriptor: &[u16],
+        steps: &mut Steps<L>,
+    ) -> Option<FieldPlace>
+        requires { class.0 < length self.now.classes }
+        ensures found { option_map (field_at self.now) result
+            ≡ option_map Some
+            (field_found self.now (name_at self.now class) name.now descriptor.now) }
+        ensures steps { steps.new
+            ≤ steps.old + length (field_order self.now (name_at self.now class)) }
+    {
         let signature = signature(&self.texts, name, descriptor)?;
         let (class, index) = self.fields.find(class, signature, steps)?;
         Some(FieldPlace { class, index })
@@ -111,8 +164,38 @@ impl World {
         ensures steps { steps.new
             ≤ steps.old + length (method_order self.now (name_at self.now class)) }
     {
+        self.method_named(class, name.as_slice(), descriptor.as_slice(), steps)
+    }
+
+    /// The same of a name and a descriptor that are lent as their units.
+    pub fn method_named<L: Ledger>(
+        &self,
+        class: ClassNo,
+        name: &[u16],
+        descriptor: &[u16],
+        steps: &mut Steps<L>,
+    ) -> Option<MethodNo>
+        requires { class.0 < length self.now.classes }
+        ensures found { option_map (method_at self.now) result
+            ≡ option_map Some
+            (method_found self.now (name_at self.now class) name.now descriptor.now) }
+        ensures steps { steps.new
+            ≤ steps.old + length (method_order self.now (name_at self.now class)) }
+    {
         let signature = signature(&self.texts, name, descriptor)?;
         let (class, index) = self.methods.find(class, signature, steps)?;
         Some(MethodNo { class, index })
+    }
+
+    /// The index of the method that a class itself declares with a name and a descriptor, lent as
+    /// their units.
+    pub fn own_method(&self, class: ClassNo, name: &[u16], descriptor: &[u16]) -> Option<u32>
+        requires { class.0 < length self.now.classes }
+        ensures { (c : _) × (slice_get self.now.classes class.0 ≡ Some c)
+            × (option_map (slice_get c.methods) result
+            ≡ option_map Some (declared_method name.now descriptor.now c)) }
+    {
+        let signature = signature(&self.texts, name, descriptor)?;
+        self.methods.own(class, signature)
     }
 }

@@ -1,13 +1,12 @@
 -- What the laws of code say of an answer that is what reading gives.
-use Rattle.std.proofs.Common.{◌≡◌, ℕ, zero, suc, ◌+◌, ◌<◌, ◌≤◌, Bool, true, false, List, [], ◌∷◌, ◌++◌, length, drop, map, Option, Some, None, option_map, find, Result, Ok, Err, refl, sym, ap, subst, ◌∙◌, arith, inl, inr}
-use Rattle.std.specs.Prelude.{IfOk, unwrap_or}
+use Rattle.std.proofs.Common.{◌≡◌, ℕ, zero, suc, ◌+◌, ◌≤◌, Bool, true, false, List, [], ◌∷◌, ◌++◌, length, drop, Option, Some, None, option_map, find, Result, Ok, Err, refl, sym, ap, subst, ◌∙◌, inl, inr}
+use Rattle.std.specs.Prelude.{IfOk}
 use Rattle.std.specs.List.{slice_get, AllByRecursion, AllZip}
 use Rattle.std.proofs.lemmas.Bool.{cases_Bool}
 use Rattle.std.proofs.Math.ListN.{drop_of_length-le}
 use Rattle.std.proofs.lemmas.List.{append-nil}
 use Rattle.jv_model.specs.Refusal.{Cause, wrong_shape}
-use Rattle.jv_model.specs.Fallible.{◌>>=◌}
-use Rattle.jv_model.specs.ClassData.{Const, gap, utf8, integer, float, long, double, class, string, fieldref, methodref, interface_methodref, name_and_type, method_handle, method_type, invoke_dynamic, Attr, Member, ClassData}
+use Rattle.jv_model.specs.ClassData.{Const, gap, Attr, Member, ClassData}
 use Rattle.jv_model.specs.ConstantPool.{const_at}
 use Rattle.jv_model.specs.Profile.{IsU1, IsAttr, IsMethod, BeginsWithGap, IsInProfile}
 use Rattle.jv_model.specs.Code.{Body}

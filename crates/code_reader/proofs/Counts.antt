@@ -1,5 +1,5 @@
 -- The lists of code that are read by a count.
-use Rattle.std.proofs.Common.{◌≡◌, ℕ, suc, ◌+◌, ◌≤◌, Bool, true, false, List, [], ◌∷◌, Option, Some, None, Result, Ok, Err, ℤ, refl, sym, ◌∙◌, arith, length}
+use Rattle.std.proofs.Common.{◌≡◌, ℕ, Bool, true, false, List, [], ◌∷◌, Option, Some, None, Result, Ok, Err, ℤ, refl, ◌∙◌, arith}
 use Rattle.jv_model.specs.Refusal.{Cause}
 use Rattle.jv_model.specs.Fallible.{◌>>=◌}
 use Rattle.jv_model.specs.Input.{Input, in_front}

@@ -1,10 +1,9 @@
 -- The types of an entry, and the frames of a stack map, one behind another.
-use Rattle.std.proofs.Common.{◌≡◌, ℕ, zero, suc, ◌+◌, ◌<◌, ◌≤◌, List, [], ◌∷◌, ◌++◌, length, drop, option_map, Option, Some, None, Result, Ok, Err, refl, sym, ap, subst, ◌∙◌, arith, append_assoc}
-use Rattle.std.specs.Prelude.{ok_or, option_and_then}
+use Rattle.std.proofs.Common.{◌≡◌, ℕ, ◌+◌, ◌≤◌, List, [], ◌∷◌, ◌++◌, length, drop, option_map, Option, Some, None, Err, refl, sym, ap, append_assoc}
+use Rattle.std.specs.Prelude.{option_and_then}
 use Rattle.std.specs.List.{slice_get}
 use Rattle.std.proofs.lemmas.List.{append-nil}
 use Rattle.std.proofs.Math.ListN.{drop_of_length-le}
-use Rattle.jv_model.specs.Fallible.{◌>>=◌}
 use Rattle.jv_model.specs.Refusal.{Cause, wrong_map_frame}
 use Rattle.jv_model.specs.ClassData.{Const}
 use Rattle.jv_model.specs.Code.{MapType, MapFrame}

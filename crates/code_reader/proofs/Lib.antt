@@ -1,7 +1,5 @@
 pub mod Table
 pub mod Offsets
-pub mod Descriptors
-pub mod Parameters
 pub mod Counts
 pub mod InstructionLists
 pub mod MapTables

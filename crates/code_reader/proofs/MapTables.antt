@@ -1,14 +1,14 @@
 -- The entries of a stack map, one behind another, and the attributes in an attribute.
-use Rattle.std.proofs.Common.{◌≡◌, ℕ, zero, suc, ◌+◌, ◌-◌, ◌<◌, ◌≤◌, Bool, true, false, eqb, List, [], ◌∷◌, ◌++◌, length, Option, Some, None, Result, Ok, Err, refl, sym, ap, subst, ◌∙◌, arith, append_assoc}
+use Rattle.std.proofs.Common.{◌≡◌, ℕ, suc, ◌+◌, true, false, eqb, List, [], ◌∷◌, ◌++◌, length, Option, Some, None, Result, Ok, Err, refl, sym, ap, ◌∙◌, append_assoc}
 use Rattle.std.proofs.lemmas.List.{append-nil}
 use Rattle.jv_model.specs.Refusal.{Cause, wrong_map_frame, extra_bytes}
 use Rattle.jv_model.specs.Fallible.{◌>>=◌}
 use Rattle.jv_model.specs.Input.{Input}
 use Rattle.jv_model.specs.ClassData.{Const}
-use Rattle.code_model.specs.StackMapEntries.{Entry, MapTable, Read, no_table, entry_at, entry_in_front, entries_at}
+use Rattle.code_model.specs.StackMapEntries.{Entry, MapTable, Read, entry_at, entry_in_front, entries_at}
 use Rattle.code_model.specs.CodeShape.{inner_at, inners_at}
 use Rattle.jv_types.specs.Reading.{Refuses}
-use Rattle.code_reader.specs.Parts.{with_front, table_in_front}
+use Rattle.code_reader.specs.Parts.{table_in_front}
 use Rattle.class_reader.proofs.Loops.InFront.{Refuses-first}
 
 twice : (front : List Entry) (entry : Entry) (read : Result MapTable Cause)

@@ -1,5 +1,5 @@
 -- The stages of reading a method's code are those of the definitions.
-use Rattle.std.proofs.Common.{◌≡◌, ℕ, List, length, Option, Some, None, Result, Ok, Err, refl, ap, ◌∙◌}
+use Rattle.std.proofs.Common.{◌≡◌, ℕ, List, length, Option, Some, None, Result, Ok, Err, refl}
 use Rattle.jv_model.specs.Fallible.{unless, ◌>>=◌}
 use Rattle.jv_model.specs.Refusal.{Cause}
 use Rattle.jv_model.specs.ClassData.{ClassData, Member}
@@ -9,7 +9,7 @@ use Rattle.code_model.specs.CodePlaces.{target_fault, handler_fault}
 use Rattle.code_model.specs.InstructionReading.{instructions_of}
 use Rattle.code_model.specs.FirstLocals.{first_locals}
 use Rattle.code_model.specs.CodeReading.{frames_of, bounds_of, body_of, body_at}
-use Rattle.code_reader.specs.Body.{fitting_parts_at, led_instructions, staged_body}
+use Rattle.code_reader.specs.Body.{led_instructions, staged_body}
 
 -- what follows two readings, one after the other
 bind_twice : {A B C : Type 0} (read : Result A Cause) (first : A → Result B Cause)

@@ -1,15 +1,14 @@
 -- Places at which instructions stand, and the first fault in a list.
-use Rattle.std.proofs.Common.{◌≡◌, ℕ, zero, suc, ◌+◌, ◌<◌, ◌≤◌, Bool, true, false, cond, ◌&&◌, ◌||◌, eqb, List, [], ◌∷◌, length, drop, map, Option, Some, None, position, get_or, refl, sym, ap, ◌∙◌, arith, drop-cons}
+use Rattle.std.proofs.Common.{◌≡◌, ℕ, suc, ◌+◌, ◌≤◌, Bool, true, false, cond, ◌||◌, List, [], ◌∷◌, length, drop, Option, Some, None, position, refl, ap, ◌∙◌, arith, drop-cons}
 use Rattle.std.specs.Prelude.{is_some}
-use Rattle.std.specs.List.{list_any, list_all, position_from, slice_get}
+use Rattle.std.specs.List.{list_any, position_from, slice_get}
 use Rattle.std.proofs.lemmas.Iterator.Adapters.{position_from-zero}
 use Rattle.std.proofs.lemmas.Option.{slice_get_within, get_or_from_slice_get}
 use Rattle.std.proofs.Math.ListN.{drop_of_length-le}
 use Rattle.jv_model.specs.ClassData.{Const}
 use Rattle.jv_model.specs.Refusal.{wrong_target, wrong_handler}
 use Rattle.jv_model.specs.Code.{Placed, Handler}
-use Rattle.code_model.specs.CodePlaces.{is_start, is_led, target_fault, is_handler, handler_fault}
-use Rattle.jv_types.specs.Instructions.{starts_at}
+use Rattle.code_model.specs.CodePlaces.{is_led, target_fault, is_handler, handler_fault}
 
 -- ---- an instruction at a place
 

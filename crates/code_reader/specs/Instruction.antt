@@ -5,7 +5,7 @@ use Rattle.jv_model.specs.Refusal.{Cause}
 use Rattle.jv_model.specs.Input.{Input, number_at}
 use Rattle.jv_model.specs.Code.{Placed}
 use Rattle.code_model.specs.Opcodes.{format_of}
-use Rattle.code_model.specs.OperandReading.{Site, Read, not_an_operand}
+use Rattle.code_model.specs.OperandReading.{Site, Read}
 use Rattle.code_model.specs.InstructionReading.{wide_operands_at, operands_at, cut_is_wrong}
 use Rattle.jv_types.specs.Reading.{Refuses}
 use Rattle.code_reader.specs.declared.error.CodeError.{CodeError}

@@ -2,7 +2,7 @@ pub mod Format
 pub mod Width
 pub mod Behind
 pub mod Gives
-pub mod Parameters
+pub mod Head
 pub mod Switch
 pub mod Instruction
 pub mod Near

@@ -1,5 +1,5 @@
 -- Parts of an attribute that fill it.
-use Rattle.std.specs.Prelude.{◌≡◌, ℕ, List, ◌==◌, length, Result}
+use Rattle.std.specs.Prelude.{ℕ, List, ◌==◌, length, Result}
 use Rattle.jv_model.specs.ClassData.{Const}
 use Rattle.jv_model.specs.Fallible.{where_true, ◌>>=◌}
 use Rattle.jv_model.specs.Refusal.{Cause, extra_bytes}

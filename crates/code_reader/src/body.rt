@@ -6,15 +6,17 @@ ghost use Rattle.jv_types.specs.ClassData.{class_data_of, member_of, pool_of};
 ghost use Rattle.jv_types.specs.Code.{body_of};
 ghost use Rattle.code_reader.specs.Body.{fitting_parts_at, led_instructions, staged_body};
 ghost use Rattle.code_reader.specs.Gives.{GivesCode};
+ghost use Rattle.code_reader.specs.Head.{head_at, IsEarly, IsRefusal};
+ghost use Rattle.jv_model.specs.Input.{whole_of};
 ghost use Rattle.code_reader.specs.Parts.{parts_of};
 ghost use Rattle.code_reader.specs.Near.{are_near};
 
-use crate::descriptor::first_locals;
 use crate::error::CodeError;
 use crate::frames::{Bounds, read_frames};
 use crate::instruction::read_instructions;
 use crate::parts::{Parts, read_parts};
 use crate::places::{wrong_handler, wrong_target};
+use class_pool::first_locals;
 use jv_types::{ClassData, CodeBody, Const, Instructions, List, MOST_FRAME_WORDS, Member};
 use std::alloc::Global;
 
@@ -29,6 +31,7 @@ fn read_fitting<'a>(
     ensures parts { GivesCode method (parts_of method) result
         (fitting_parts_at (pool_of pool.now.items) method bytes.now) }
     ensures short { IfOk result (λ parts. length parts.code.now ≤ most_code_bytes) }
+    ensures early { IsEarly IsRefusal (head_at method (whole_of bytes.now)) result }
 {
     let parts = read_parts(alloc, pool, method, bytes)?;
     let words = u32::from(parts.max_stack) + u32::from(parts.max_locals);
@@ -70,8 +73,9 @@ pub fn read_body(
     bytes: &[u8],
 ) -> Result<CodeBody, CodeError>
     requires { length bytes.now < 2 ^ 32 }
-    ensures { GivesCode method body_of result
+    ensures body { GivesCode method body_of result
         (staged_body (class_data_of class.now) method (member_of member.now) bytes.now) }
+    ensures early { IsEarly IsRefusal (head_at method (whole_of bytes.now)) result }
 {
     let parts = read_fitting(alloc, &class.pool, method, bytes)?;
     let instructions = read_led(alloc, class, method, &parts)?;

@@ -14,7 +14,7 @@ ghost use Rattle.code_reader.specs.Near.{are_near};
 use crate::error::CodeError;
 use crate::map_entry::{Entry, EntryType, FrameForm, MapTable};
 use crate::places::is_start;
-use crate::pool::names;
+use class_pool::names;
 use jv_types::{Const, Instructions, List, MapFrame, MapType, NoMemory, tag};
 use std::alloc::Global;
 

@@ -11,11 +11,12 @@ ghost use Rattle.jv_types.specs.ClassData.{class_data_of, member_of};
 ghost use Rattle.jv_types.specs.Code.{body_of};
 ghost use Rattle.jv_types.specs.Loaded.{code_of};
 ghost use Rattle.code_reader.specs.Gives.{GivesCode};
+ghost use Rattle.code_reader.specs.Head.{head_of, IsEarly, IsRefusal};
 ghost use Rattle.code_reader.specs.Method.{IsCodeOf, GivesCodes, Codes, codes_in, codes_of};
 
 use crate::body::read_body;
 use crate::error::CodeError;
-use crate::pool::is_named;
+use class_pool::is_named;
 use jv_types::{ClassData, CodeBody, List, Loaded, Member};
 use std::alloc::Global;
 
@@ -40,7 +41,8 @@ fn code_bytes<'a>(class: &ClassData, member: &'a Member) -> Option<&'a [u8]>
 ///
 /// The error is the first refusal, in this order: the attribute's parts, the words of a frame, the
 /// instructions by their places, the targets of branches, the exception table, the stack map. A
-/// method without the attribute is refused as if the attribute were empty.
+/// method without the attribute is refused as if the attribute were empty. Memory is wanted only
+/// once the code and the count of the exception table's rows are read.
 pub fn read_code(alloc: Global, class: &ClassData, method: u32) -> Result<CodeBody, CodeError>
     requires profile { IsInProfile (class_data_of class.now) }
     requires there { method < length class.now.methods.items }
@@ -55,6 +57,9 @@ pub fn read_code(alloc: Global, class: &ClassData, method: u32) -> Result<CodeBo
     // Which refusal it is.
     ensures refusal { GivesCode method body_of result
         (code_of_method (class_data_of class.now) method) }
+
+    // What is wrong in front of the exception table is told, however little memory there is.
+    ensures early { IsEarly IsRefusal (head_of (class_data_of class.now) method) result }
 {
     let member = class.methods.get(method);
     let Some(bytes) = code_bytes(class, member) else {

@@ -14,10 +14,9 @@ ghost use Rattle.code_reader.specs.Gives.{GivesOperand, site_of};
 ghost use Rattle.code_reader.specs.Behind.{IsBehind};
 ghost use Rattle.code_reader.specs.Width.{bytes_of};
 
-use crate::descriptor::is_argument_count;
 use crate::error::OperandError;
 use crate::format::{Branch, EntryKind, Indexed, LocalAccess, Plain};
-use crate::pool::names_one_of;
+use class_pool::{is_argument_count, names_one_of};
 use jv_types::{ClassData, Cut, Input, Instruction, PrimitiveType, tag};
 use std::alloc::Global;
 

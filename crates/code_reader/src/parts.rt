@@ -8,10 +8,12 @@ ghost use Rattle.jv_types.specs.Code.{handler_of};
 ghost use Rattle.code_reader.specs.Gives.{GivesCode};
 ghost use Rattle.code_reader.specs.Parts.{GivesPart, table_of, parts_of};
 ghost use Rattle.code_reader.specs.Shape.{whole_parts_at, IsShapeError};
+ghost use Rattle.code_reader.specs.Head.{head_at, IsEarly, IsPartRefusal, IsRefusal};
+ghost use Rattle.jv_model.specs.Input.{whole_of};
 
 use crate::error::{CodeError, PartError};
 use crate::map_entry::{MapTable, read_map};
-use crate::pool::{is_named, names};
+use class_pool::{is_named, names};
 use jv_types::{Const, Handler, Input, List, tag};
 use std::alloc::Global;
 
@@ -128,6 +130,7 @@ fn read_front<'a>(
     ensures parts { GivesPart method (λ parts. (parts_of method parts, input.new)) result
         (parts_at (pool_of pool.now.items) method input.old) }
     ensures short { IfOk result (λ parts. length parts.code.now ≤ most_code_bytes) }
+    ensures early { IsEarly IsPartRefusal (head_at method input.old) result }
 {
     let max_stack = input.u2()?;
     let max_locals = input.u2()?;
@@ -167,6 +170,7 @@ fn read_whole<'a>(
     ensures parts { GivesPart method (parts_of method) result
         (whole_parts_at (pool_of pool.now.items) method bytes.now) }
     ensures short { IfOk result (λ parts. length parts.code.now ≤ most_code_bytes) }
+    ensures early { IsEarly IsPartRefusal (head_at method (whole_of bytes.now)) result }
 {
     let mut input = Input::whole_of(bytes);
     let parts = read_front(alloc, pool, method, &mut input)?;
@@ -178,7 +182,8 @@ fn read_whole<'a>(
 
 /// What isn't whole, or is left over, has the wrong shape.
 fn shape_error(error: PartError) -> CodeError
-    ensures { IsShapeError error result }
+    ensures shape { IsShapeError error result }
+    ensures early { IsPartRefusal error → IsRefusal result }
 {
     match error {
         PartError::Cut { at } | PartError::Extra { at } | PartError::Shape { at } => {
@@ -200,6 +205,7 @@ pub fn read_parts<'a>(
     ensures parts { GivesCode method (parts_of method) result
         (parts_of_attribute (pool_of pool.now.items) method bytes.now) }
     ensures short { IfOk result (λ parts. length parts.code.now ≤ most_code_bytes) }
+    ensures early { IsEarly IsRefusal (head_at method (whole_of bytes.now)) result }
 {
     match read_whole(alloc, pool, method, bytes) {
         Ok(parts) => Ok(parts),

@@ -10,7 +10,7 @@ ghost use Rattle.jv_types.specs.Code.{handler_of};
 ghost use Rattle.jv_types.specs.Instruction.{instruction_of, pairs_of};
 ghost use Rattle.code_reader.specs.Switch.{target_of};
 
-use crate::pool::names;
+use class_pool::names;
 use jv_types::{Const, Handler, Instruction, Instructions, List, SwitchPair, tag};
 
 /// Whether an instruction stands at the place.

@@ -1,66 +1,80 @@
 //! The table of codes.
 
-ghost use Rattle.std.specs.Prelude.{◌≡◌, ◌+◌, ◌<◌, ◌≤◌, List, ℕ, [], length, map, slice_get, Some};
-ghost use Rattle.std.specs.List.{All};
+ghost use Rattle.std.specs.Prelude.{◌<◌, List, [], length, slice_get};
+ghost use Rattle.jv_model.specs.Operand.{Operand};
 ghost use Rattle.jv_model.specs.Code.{Body};
-ghost use Rattle.jv_model.specs.Limits.{most_frame_words};
-ghost use Rattle.jv_types.specs.Code.{body_of};
 
 use crate::mark::CodeMark;
-use jv_types::{CodeBody, List};
+use jv_types::{CodeBody, Const, List};
 use std::marker::{Brand, Model, PhantomData};
 
 /// A type that stands for one table of codes. Whoever calls a generic function picks the table.
 pub trait Codes {
-    /// The codes by their numbers.
-    ghost table: { List (Body ℕ) };
+    /// The codes of methods by their numbers, with names in place of indices.
+    ghost table: { List (Body Operand) };
 }
 
 impl Codes for Brand {
     ghost table = { [] };
 }
 
+/// The code of a method, and the number of the constant pool of its class.
+#[derive(Debug, Drop)]
+pub struct StoredCode {
+    pub body: CodeBody,
+    pub pool: u32,
+}
+
+/// The code of a method, and the constant pool that its indices are of.
+#[derive(Clone, Copy, Debug)]
+pub struct Code<'a> {
+    pub body: &'a CodeBody,
+    pub pool: &'a [Const],
+}
+
 /// The codes of the table that `C` names, which never change.
 #[derive(Drop)]
 pub struct CodeStore<C: Codes> {
-    codes: List<CodeBody>,
+    codes: List<StoredCode>,
+    pools: List<List<Const>>,
     table: PhantomData<C>,
 }
 
 impl<C: Codes> Model for CodeStore<C> {
-    ghost use Rattle.std.specs.Prelude.{◌≡◌, map};
-    ghost use Rattle.jv_types.specs.Code.{body_of};
+    ghost use Rattle.code_store.specs.Codes.{AreStored};
 
     ghost Value = { Unit {0} };
 
-    ghost use Rattle.code_store.specs.Sizes.{FitFrames};
-
     ghost view = { λ it. tt };
 
-    ghost invariant = { λ it.
-        (map body_of it.codes.items ≡ C.table) × FitFrames it.codes.items };
+    ghost invariant = { λ it. AreStored it.pools.items it.codes.items C.table };
 }
 
 impl<C: Codes> CodeStore<C> {
-    ghost use Rattle.code_store.specs.Sizes.{FitFrames};
+    ghost use Rattle.code_store.specs.Codes.{AreStored, ShowsCode};
 
-    /// The store of the codes of a table. The frame of each has at most 4,096 words.
-    pub fn new(codes: List<CodeBody>) -> CodeStore<C>
-        requires table { map body_of codes.items ≡ C.table }
-        requires sizes { FitFrames codes.items }
+    /// The store of the codes of a table, with the constant pools of their classes.
+    pub fn new(codes: List<StoredCode>, pools: List<List<Const>>) -> CodeStore<C>
+        requires { AreStored pools.items codes.items C.table }
     {
         CodeStore {
             codes,
+            pools,
             table: PhantomData,
         }
     }
 
-    /// The code that a mark shows.
-    pub fn get(&self, mark: &CodeMark) -> &CodeBody
+    /// The code that a mark shows. Its instructions follow each other, and its frame has at most
+    /// 4,096 words.
+    pub fn get(&self, mark: &CodeMark) -> Code<'_>
         requires { mark.now.body < length C.table }
-        ensures body { slice_get C.table mark.now.body ≡ Some (body_of result.now) }
-        ensures size { result.now.max_locals + result.now.max_stack ≤ most_frame_words }
+        ensures { ShowsCode (slice_get C.table mark.now.body)
+            result.pool.now result.body.now }
     {
-        self.codes.get(mark.body)
+        let stored = self.codes.get(mark.body);
+        Code {
+            body: &stored.body,
+            pool: self.pools.get(stored.pool).as_slice(),
+        }
     }
 }

@@ -1,2 +1,4 @@
 pub mod Constants
 pub mod Outcome
+pub mod Families
+pub mod Steps

@@ -1,5 +1,5 @@
 -- The arguments of a call lie on the operands, the last one on top, and are the first locals of the method.
-use Rattle.std.proofs.Common.{◌≡◌, ℕ, ◌+◌, List, [], ◌∷◌, ◌++◌, Some, Bool, true, refl, ap, sym, subst, ◌∙◌, if◌then◌else◌, length, map, reverse, arith, length-append}
+use Rattle.std.proofs.Common.{◌≡◌, ℕ, ◌+◌, List, [], ◌∷◌, ◌++◌, Some, Bool, true, false, refl, ap, sym, subst, ◌∙◌, if◌then◌else◌, length, map, reverse, arith, length-append}
 use Rattle.std.specs.Prelude.{sum}
 use Rattle.std.specs.List.{list_all}
 use Rattle.std.proofs.lemmas.Bool.{and_parts}
@@ -77,6 +77,26 @@ all_words (p ∷ ps) h =
         → length (as_locals (type_of p ∷ []) ++ as_locals types) ≡ length (as_locals (type_of p ∷ types))
     seam p types = ap (λ (front : List VerificationType). length (front ++ as_locals types)) (append-nil (if is_long (type_of p) then type_of p ∷ top ∷ [] else type_of p ∷ []))
 
+-- in arguments by order a half stands after each long
+abbrev pub are_whole : List Value → Bool
+are_whole [] = true
+are_whole (long n ∷ half ∷ values) = are_whole values
+are_whole (long n ∷ values) = false
+are_whole (value ∷ values) = are_whole values
+
+whole_one : (value : Value) → are_whole (reverse (onto value [])) ≡ true
+whole_one (int n) = refl
+whole_one (long n) = refl
+whole_one half = refl
+whole_one null = refl
+whole_one (reference id) = refl
+
+whole_append : (xs ys : List Value) → are_whole xs ≡ true → are_whole ys ≡ true → are_whole (xs ++ ys) ≡ true
+whole_append [] ys h k = k
+whole_append (long n ∷ half ∷ xs) ys h k = whole_append xs ys h k
+whole_append (long n ∷ xs) ys h k = absurd cc
+whole_append (x ∷ xs) ys h k = whole_append xs ys h k
+
 -- What typing takes as arguments: their places, and what is left below them.
 pub record ArgumentsOn (heap : HeapTyping) (ps : List FieldType) (tests : List Test) (rest : List VerificationType)
     (e : Environment) (values : List Value) : Type 0 where
@@ -85,6 +105,7 @@ pub record ArgumentsOn (heap : HeapTyping) (ps : List FieldType) (tests : List T
   pub types : List VerificationType
   pub is : values ≡ front ++ others
   pub fit : (callee : Environment) → pointwise (is_of_type heap callee) (as_locals (map type_of ps)) (reverse front) ≡ true
+  pub whole : are_whole (reverse front) ≡ true
   pub are_below : below tests types ≡ Some rest
   pub below_fit : are_of_types heap e types others ≡ true
 
@@ -101,6 +122,7 @@ module _ (heap : HeapTyping) (e : Environment) (subsumes : Subsumes heap e) wher
     types = stack;
     is = refl;
     fit = λ callee. refl;
+    whole = refl;
     are_below = b;
     below_fit = f;
   }
@@ -119,6 +141,8 @@ module _ (heap : HeapTyping) (e : Environment) (subsumes : Subsumes heap e) wher
         fit = λ callee. subst (λ (vs : List Value). pointwise (is_of_type heap callee) (as_locals (map type_of (p ∷ ps))) vs ≡ true) (sym (reverse-append later.front (onto x.value [])))
             (subst (λ (ts : List VerificationType). pointwise (is_of_type heap callee) (ts ++ as_locals (map type_of ps)) (reverse (onto x.value []) ++ reverse later.front) ≡ true) (append-nil (if is_long (type_of p) then type_of p ∷ top ∷ [] else type_of p ∷ []))
             (pairs_append (is_of_type heap callee) (as_locals (type_of p ∷ [])) (as_locals (map type_of ps)) (reverse (onto x.value [])) (reverse later.front) (one_local heap callee p x.value q.0 held) (later.fit callee)));
+        whole = subst (λ (vs : List Value). are_whole vs ≡ true) (sym (reverse-append later.front (onto x.value [])))
+            (whole_append (reverse (onto x.value [])) (reverse later.front) (whole_one x.value) later.whole);
         are_below = x.are_below;
         below_fit = x.fit;
       }

@@ -1,9 +1,8 @@
 -- Array loads and stores, `arraylength` and `newarray` are right.
-use Rattle.std.proofs.Common.{◌≡◌, ℕ, ℤ, pos, int_le, unsigned_abs, List, [], ◌∷◌, Option, Some, None, Bool, true, false, refl, ap, sym, subst, ◌∙◌, if◌then◌else◌, slice_get, option_and_then, codes, inl, inr}
+use Rattle.std.proofs.Common.{◌≡◌, ℕ, ℤ, pos, int_le, unsigned_abs, List, [], ◌∷◌, Option, Some, None, Bool, true, false, refl, ap, sym, subst, ◌∙◌, if◌then◌else◌, slice_get, codes, inl, inr}
 use Rattle.std.specs.Prelude.{IsTrue}
 use Rattle.std.specs.List.{list_all}
 use Rattle.std.proofs.lemmas.Bool.{and_parts, or_cases}
-use Rattle.jv_model.specs.Partial.{passes}
 use Rattle.jv_model.specs.Descriptors.{FieldType, byte_type, char_type, int_type as int_field, long_type as long_field, short_type, boolean_type, class_type, array_of}
 use Rattle.jv_model.specs.Flow.{goes_on as flow_goes_on}
 use Rattle.jv_model.specs.Instruction.{ElementKind, ints, longs, references, bytes, chars, shorts}
@@ -16,7 +15,7 @@ use Rattle.typing_model.specs.Environment.{Environment}
 use Rattle.typing_model.specs.Transition.{to, below, pushed, changed, operand_at}
 use Rattle.machine_model.specs.Value.{Value, int, long, null, reference, is_of_kind}
 use Rattle.machine_model.specs.Heap.{Contents, instance, array, string, contents_at}
-use Rattle.machine_model.specs.ObjectTypes.{own_type, component_of, element_type}
+use Rattle.machine_model.specs.ObjectTypes.{own_type}
 use Rattle.machine_model.specs.State.{State}
 use Rattle.machine_model.specs.Deed.{Running}
 use Rattle.machine_model.specs.ArraySteps.{kind_of_elements, element_at, loads_element, load_element}
@@ -27,7 +26,7 @@ use Rattle.frame_laws.proofs.Verified.{some_and_is}
 use Rattle.frame_laws.proofs.Growing.{passes_too}
 use Rattle.frame_laws.proofs.Ordered.{has_orders}
 use Rattle.machine_laws.specs.Runnable.{is_operand}
-use Rattle.machine_laws.specs.Deeds.{IsRight}
+use Rattle.machine_laws.proofs.TypedStates.{IsTypedDeed}
 use Rattle.machine_laws.proofs.Heaps.{typed_is}
 use Rattle.machine_laws.proofs.Ready.{Ready, throws_rightly, operands_fit}
 use Rattle.machine_laws.proofs.Operands.{lands, when_test, stands_through}
@@ -37,11 +36,9 @@ use Rattle.machine_laws.proofs.Numbers.{gives_rightly}
 
 -- An array in use: its contents, and the type of its elements, which it holds.
 pub record ArrayThere (state : State) (heap : HeapTyping) (id : ℕ) (component : FieldType) : Type 0 where
-  pub descriptor : List ℕ
-  pub elements : List Value
   pub type : FieldType
-  pub there : contents_at state.heap id ≡ Some (array descriptor elements)
-  pub typed : element_type descriptor ≡ Some type
+  pub elements : List Value
+  pub there : contents_at state.heap id ≡ Some (array type elements)
   pub hold : list_all (holds heap type) elements ≡ true
   pub stands : may_stand heap.world type component ≡ true
 
@@ -51,6 +48,14 @@ array_own : (world : World) (own component : FieldType) → may_stand world own 
 unfolding may_stand is_same_field_type
 array_own world (array_of type) component h = (type, refl, h)
 array_own world own component h = absurd cc
+
+-- equal types of arrays have equal components
+component_same : (a b : FieldType) → array_of a ≡ array_of b → a ≡ b
+component_same a b h = ap (component_or a) h
+  where
+    component_or : FieldType → FieldType → FieldType
+    component_or a (array_of c) = c
+    component_or a other = a
 
 module _ (r : Running) (live : ℕ → Bool) (ready : Ready r live) where
   abbrev heap : HeapTyping
@@ -63,24 +68,20 @@ module _ (r : Running) (live : ℕ → Bool) (ready : Ready r live) where
       let own = some_and_is (λ own. may_stand r.state.world own (array_of component)) (heap.type_at id) h in
       let is = typed_is r.state live id own.0 own.1 in
       let array = array_own r.state.world own.0 component own.2 in
-      of is.1 array.0 is.2 (is.3 ∙ ap Some array.1) array.2 (ready.conforms.shared.objects id is.1 is.0 is.2)
+      of is.1 array.0 is.2 (is.3 ∙ array.1) array.2 (ready.conforms.shared.objects id is.1 is.0 is.2)
     where
       of : (contents : Contents) (type : FieldType) → contents_at r.state.heap id ≡ Some contents
-          → own_type contents ≡ Some (array_of type) → may_stand r.state.world type component ≡ true
+          → own_type contents ≡ array_of type → may_stand r.state.world type component ≡ true
           → IsTrue (contents_conform heap contents) → ArrayThere r.state heap id component
       of (instance name values) type at own stands conforms = absurd cc
       of (string units) type at own stands conforms = absurd cc
-      of (array descriptor elements) type at own stands conforms =
-          let typed : element_type descriptor ≡ Some type = ap (option_and_then component_of) own in
-          record {
-            descriptor = descriptor;
-            elements = elements;
-            type = type;
-            there = at;
-            typed = typed;
-            hold = sym (ap (passes (λ type. list_all (holds heap type) elements)) typed) ∙ conforms;
-            stands = stands;
-          }
+      of (array own elements) type at same stands conforms = record {
+        type = own;
+        elements = elements;
+        there = at;
+        hold = conforms;
+        stands = subst (λ (t : FieldType). may_stand r.state.world t component ≡ true) (sym (component_same own type same)) stands;
+      }
 
 -- ---- kinds of arrays
 
@@ -291,7 +292,7 @@ module _ (r : Running) (live : ℕ → Bool) (ready : Ready r live) (on : flow_g
       → stands_for (heap_typing r.state live) id (array_of component) ≡ true
       → pushed ready.e (loaded_type kind (array_type component) ∷ []) (record ready.before { stack = rest }) ≡ Some ready.at.applies.after
       → are_of_types (heap_typing r.state live) ready.e rest others ≡ true
-      → IsRight r.state.world (load_element r kind (int index ∷ reference id ∷ others))
+      → IsTypedDeed r.state.world (load_element r kind (int index ∷ reference id ∷ others))
   unfolding below
   loads_rightly kind component rest others index id taken stands h f =
       let a = array_there r live ready id component stands in
@@ -301,7 +302,7 @@ module _ (r : Running) (live : ℕ → Bool) (ready : Ready r live) (on : flow_g
       all = subst (λ (w : World). FitsAll w kind component) ready.typed.same_world (kinded ready.e kind component taken)
 
       of : (a : ArrayThere r.state (heap_typing r.state live) id component) (o : Option Value) → element_at a.elements index ≡ o
-          → IsRight r.state.world (loads_element r kind others o)
+          → IsTypedDeed r.state.world (loads_element r kind others o)
       of a None at = throws_rightly r live ready (codes "java/lang/ArrayIndexOutOfBoundsException") false refl
       of a (Some value) at =
           let fits = all a.type a.stands in
@@ -322,7 +323,7 @@ module _ (r : Running) (live : ℕ → Bool) (ready : Ready r live) (on : flow_g
       (value : Value) → is_array_of ready.e kind type ≡ true → is_of_type (heap_typing r.state live) ready.e type value ≡ true
       → pushed ready.e (loaded_type kind type ∷ []) (record ready.before { stack = rest }) ≡ Some ready.at.applies.after
       → are_of_types (heap_typing r.state live) ready.e rest others ≡ true
-      → IsRight r.state.world (load_element r kind (int index ∷ value ∷ others))
+      → IsTypedDeed r.state.world (load_element r kind (int index ∷ value ∷ others))
   unfolding is_of_type
   loads_of kind rest others index type null taken of h f =
       throws_rightly r live ready (codes "java/lang/NullPointerException") false refl
@@ -334,10 +335,10 @@ module _ (r : Running) (live : ℕ → Bool) (ready : Ready r live) (on : flow_g
 
   -- array loads are right
   pub load_element_is_right : (kind : ElementKind) → array_loaded ready.e kind ready.before ≡ Some ready.at.applies.after
-      → IsRight r.state.world (load_element r kind r.frame.stack)
+      → IsTypedDeed r.state.world (load_element r kind r.frame.stack)
   load_element_is_right kind h =
       let b = bind_is (λ (t : VerificationType). changed ready.e (is_int ∷ is_array_of ready.e kind ∷ []) (loaded_type kind t ∷ []) ready.before) (operand_at 1 ready.before) ready.at.applies.after h in
       let c = changed_is ready.e (is_int ∷ is_array_of ready.e kind ∷ []) (loaded_type kind b.0 ∷ []) ready.before ready.at.applies.after b.2 in
       let s = load_shape (heap_typing r.state live) ready.e kind ready.before.stack c.0 r.frame.stack c.1 (operands_fit r live ready) in
-      subst (λ (vs : List Value). IsRight r.state.world (load_element r kind vs)) (sym s.is)
+      subst (λ (vs : List Value). IsTypedDeed r.state.world (load_element r kind vs)) (sym s.is)
       (loads_of kind c.0 s.others s.index s.type s.value s.array s.of (subst (λ (t : VerificationType). pushed ready.e (loaded_type kind t ∷ []) (record ready.before { stack = c.0 }) ≡ Some ready.at.applies.after) (some_inj (sym b.1 ∙ s.second)) c.2) s.fit)

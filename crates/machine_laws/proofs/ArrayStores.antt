@@ -3,7 +3,6 @@ use Rattle.std.proofs.Common.{◌≡◌, ℕ, ℤ, zero, suc, ◌<◌, unsigned_
 use Rattle.std.specs.Prelude.{is_some, bytes_eq, ◌||◌}
 use Rattle.std.specs.List.{list_all}
 use Rattle.std.proofs.lemmas.Bool.{and_parts, or_left, or_right, le-leb}
-use Rattle.jv_model.specs.Partial.{passes}
 use Rattle.jv_model.specs.Descriptors.{FieldType, byte_type, char_type, int_type as int_field, long_type as long_field, short_type, boolean_type, class_type, array_of}
 use Rattle.jv_model.specs.Flow.{goes_on as flow_goes_on}
 use Rattle.jv_model.specs.Instruction.{ValueKind, of_int, of_long, of_reference, ElementKind, ints, longs, references, bytes, chars, shorts}
@@ -17,7 +16,7 @@ use Rattle.typing_model.specs.Environment.{Environment}
 use Rattle.typing_model.specs.Transition.{Test, to, below}
 use Rattle.machine_model.specs.Value.{Value, int, long, null, reference, taken_of}
 use Rattle.machine_model.specs.Heap.{Contents, array}
-use Rattle.machine_model.specs.ObjectTypes.{is_instance_of, element_type}
+use Rattle.machine_model.specs.ObjectTypes.{is_instance_of}
 use Rattle.machine_model.specs.State.{State}
 use Rattle.machine_model.specs.Deed.{throws, Running, goes_on, ◌>>=◌}
 use Rattle.machine_model.specs.ArraySteps.{kind_of_elements, element_at, narrowed, fits_element, with_elements, stores_element, stores_at, store_element, out_of_bounds}
@@ -28,7 +27,7 @@ use Rattle.frame_laws.proofs.Outcome.{both, popped_is}
 use Rattle.frame_laws.proofs.Verified.{Subsumes, some_and_is}
 use Rattle.frame_laws.proofs.Onward.{subsumes}
 use Rattle.frame_laws.proofs.Growing.{all_pass, holds_kept}
-use Rattle.machine_laws.specs.Deeds.{IsRight}
+use Rattle.machine_laws.proofs.TypedStates.{IsTypedDeed}
 use Rattle.machine_laws.proofs.Heaps.{typed_is, rewriting_grows}
 use Rattle.machine_laws.proofs.Ready.{Ready, rewriting, throws_rightly, operands_fit, operands_then, pops_rightly}
 use Rattle.machine_laws.proofs.Operands.{one_place, Object, no_object, object, class_object, take_wanted}
@@ -103,7 +102,7 @@ module _ (r : Running) (live : ℕ → Bool) (ready : Ready r live) (on : flow_g
       let is = typed_is r.state live id own at in (
         is_instance_of r.state.world type is.1,
         ap (option_map (is_instance_of r.state.world type)) is.2,
-        λ h. rw at (subtype_stands r.state.world own type (sym (ap (passes (λ o. is_subtype r.state.world o type)) is.3) ∙ h)),
+        λ h. rw at (subtype_stands r.state.world own type (sym (ap (λ (o : FieldType). is_subtype r.state.world o type) is.3) ∙ h)),
       )
 
   -- an element is stored in an array
@@ -112,46 +111,44 @@ module _ (r : Running) (live : ℕ → Bool) (ready : Ready r live) (on : flow_g
       → (a : ArrayThere r.state heap id component) → Storable heap kind value
       → record ready.before { stack = rest } ≡ ready.at.applies.after → are_of_types heap ready.e rest others ≡ true
       → nat_le (length others) (length r.frame.stack) ≡ true
-      → IsRight r.state.world (stores_element r kind id (array a.descriptor a.elements) index value others)
+      → IsTypedDeed r.state.world (stores_element r kind id (array a.type a.elements) index value others)
   stores_in kind component id index value rest others taken a storable h f fewer = within (is_some (element_at a.elements index))
     where
       fits : fits_kind kind a.type ≡ true
       fits = subst (λ (w : World). FitsAll w kind component) ready.typed.same_world (kinded ready.e kind component taken) a.type a.stands
 
       new_contents : Value → Contents
-      new_contents left = array a.descriptor (slice_set a.elements (unsigned_abs index) left)
+      new_contents left = array a.type (slice_set a.elements (unsigned_abs index) left)
 
-      no_string : (units : List ℕ) → is_string units (array a.descriptor a.elements) ≡ false
+      no_string : (units : List ℕ) → is_string units (array a.type a.elements) ≡ false
       no_string units = refl
 
       puts : (left : Value) → holds heap a.type left ≡ true
-          → IsRight r.state.world (goes_on r (with_elements id a.descriptor (slice_set a.elements (unsigned_abs index) left) r.state) others)
+          → IsTypedDeed r.state.world (goes_on r (with_elements id a.type (slice_set a.elements (unsigned_abs index) left) r.state) others)
       puts left held =
-          let grows = rewriting_grows r.state live id (array a.descriptor a.elements) (new_contents left) a.there refl in
-          let after : State = with_elements id a.descriptor (slice_set a.elements (unsigned_abs index) left) r.state in
-          let follows = rewriting r.state live id (array a.descriptor a.elements) (new_contents left) a.there refl ready.conforms no_string
-          (ap (passes (λ type. list_all (holds (heap_typing after live) type) (slice_set a.elements (unsigned_abs index) left))) a.typed
-          ∙ all_set (holds (heap_typing after live) a.type) a.elements (unsigned_abs index) left
+          let grows = rewriting_grows r.state live id (array a.type a.elements) (new_contents left) a.there refl in
+          let after : State = with_elements id a.type (slice_set a.elements (unsigned_abs index) left) r.state in
+          let follows = rewriting r.state live id (array a.type a.elements) (new_contents left) a.there refl ready.conforms no_string
+          (all_set (holds (heap_typing after live) a.type) a.elements (unsigned_abs index) left
           (all_pass (holds heap a.type) (holds (heap_typing after live) a.type) (λ v k. holds_kept r.state.world heap.type_at (heap_typing after live).type_at grows a.type v k) a.elements a.hold)
           (holds_kept r.state.world heap.type_at (heap_typing after live).type_at grows a.type left held)) in
           pops_rightly r live ready after live follows 0 false rest others on h (operands_then r live ready after live follows rest others f) fewer
 
       either : (left : Value) (b : Bool) → (b ≡ true → holds heap a.type left ≡ true)
-          → IsRight r.state.world (if b then goes_on r (with_elements id a.descriptor (slice_set a.elements (unsigned_abs index) left) r.state) others else throws (codes "java/lang/ArrayStoreException") false)
+          → IsTypedDeed r.state.world (if b then goes_on r (with_elements id a.type (slice_set a.elements (unsigned_abs index) left) r.state) others else throws (codes "java/lang/ArrayStoreException") false)
       either left true held = puts left (held refl)
       either left false held = throws_rightly r live ready (codes "java/lang/ArrayStoreException") false refl
 
-      within : (b : Bool) → IsRight r.state.world (if b then (do
-        type ← element_type a.descriptor
-        left ← narrowed kind type value
-        fits ← fits_element r type value
-        if fits then goes_on r (with_elements id a.descriptor (slice_set a.elements (unsigned_abs index) left) r.state) others
+      within : (b : Bool) → IsTypedDeed r.state.world (if b then (do
+        left ← narrowed kind a.type value
+        fits ← fits_element r a.type value
+        if fits then goes_on r (with_elements id a.type (slice_set a.elements (unsigned_abs index) left) r.state) others
             else throws (codes "java/lang/ArrayStoreException") false) else out_of_bounds)
       within false = throws_rightly r live ready (codes "java/lang/ArrayIndexOutOfBoundsException") false refl
       within true =
           let s = is_stored heap kind a.type value fits storable in
           let q = asked kind a.type value storable in
-          rw (a.typed, s.1, q.1) (either s.0 q.0 (λ k. s.2 (q.2 k)))
+          rw (s.1, q.1) (either s.0 q.0 (λ k. s.2 (q.2 k)))
 
 -- What a store takes from the operands: a value of its kind.
 record StoreTaken (heap : HeapTyping) (e : Environment) (kind : ElementKind) (tests : List Test)
@@ -244,7 +241,7 @@ module _ (r : Running) (live : ℕ → Bool) (ready : Ready r live) (on : flow_g
       → record ready.before { stack = rest } ≡ ready.at.applies.after
       → are_of_types (heap_typing r.state live) ready.e rest others ≡ true
       → nat_le (length others) (length r.frame.stack) ≡ true
-      → IsRight r.state.world (stores_at r kind value (int index ∷ place ∷ others))
+      → IsTypedDeed r.state.world (stores_at r kind value (int index ∷ place ∷ others))
   unfolding is_of_type
   stores_of kind rest others index type null value taken of storable h f fewer =
       throws_rightly r live ready (codes "java/lang/NullPointerException") false refl
@@ -258,11 +255,11 @@ module _ (r : Running) (live : ℕ → Bool) (ready : Ready r live) (on : flow_g
 
   -- array stores are right
   pub store_element_is_right : (kind : ElementKind) → array_stored ready.e kind ready.before ≡ Some ready.at.applies.after
-      → IsRight r.state.world (store_element r kind)
+      → IsTypedDeed r.state.world (store_element r kind)
   store_element_is_right kind h =
       let p = popped_is (is_element ready.e kind ∷ is_int ∷ is_array_of ready.e kind ∷ []) ready.before ready.at.applies.after h in
       let v = takes (heap_typing r.state live) ready.e (subsumes (heap_typing r.state live) ready.runnable.verified ready.e ready.typed) (is_int ∷ is_array_of ready.e kind ∷ []) ready.before.stack p.0 r.frame.stack (operands_fit r live ready) kind p.1 in
       let s = load_shape (heap_typing r.state live) ready.e kind v.types p.0 v.others v.are_below v.fit in
-      rw v.taken (subst (λ (vs : List Value). IsRight r.state.world (stores_at r kind v.value vs)) (sym s.is)
+      rw v.taken (subst (λ (vs : List Value). IsTypedDeed r.state.world (stores_at r kind v.value vs)) (sym s.is)
       (stores_of kind p.0 s.others s.index s.type s.value v.value s.array s.of v.storable p.2 s.fit
       (le-leb _ _ (let first = v.fewer in let second : length v.others ≡ suc (suc (length s.others)) = ap length s.is in omega arith))))

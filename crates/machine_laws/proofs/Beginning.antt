@@ -22,7 +22,7 @@ use Rattle.machine_model.specs.Heap.{replace_at, entered}
 use Rattle.machine_model.specs.CallSteps.{argument_words, first_locals, new_frame, waits, entered_by}
 use Rattle.machine_model.specs.ReturnSteps.{start_arguments, found_method, started_with, starts_next}
 use Rattle.machine_model.specs.TypedValues.{HeapTyping, heap_typing, stands_for, is_of_type, are_of_types}
-use Rattle.machine_model.specs.Conforms.{current_types, holds_rightly, frame_environment, frame_conforms, callers_conform, frames_conform, can_begin, thread_conforms, ConformsWith, Conforms}
+use Rattle.machine_model.specs.Conforms.{current_types, holds_rightly, frame_environment, frame_conforms, callers_conform, frames_conform, can_begin, thread_conforms, ConformsWith}
 use Rattle.world_model.specs.LookUp.{Found}
 use Rattle.link_laws.proofs.Names.{same_text}
 use Rattle.frame_laws.specs.Worlds.{IsVerified}
@@ -32,8 +32,9 @@ use Rattle.frame_laws.proofs.Standing.{typed_frame, entry}
 use Rattle.frame_laws.proofs.Onward.{arrives}
 use Rattle.frame_laws.proofs.Growing.{frame_kept}
 use Rattle.machine_laws.specs.Runnable.{IsRunnable}
-use Rattle.machine_laws.specs.Deeds.{IsRight}
-use Rattle.machine_laws.proofs.Ready.{shared_with, all_replaced, Follows, itself, monitoring}
+use Rattle.machine_laws.proofs.TypedStates.{IsTypedState, IsTypedDeed}
+use Rattle.state_laws.proofs.Lists.{all_replaced}
+use Rattle.machine_laws.proofs.Ready.{shared_with, Follows, itself, monitoring}
 use Rattle.machine_laws.proofs.Calling.{of_frame, found_is}
 use Rattle.machine_laws.proofs.Objects.{stands_itself}
 
@@ -121,13 +122,13 @@ record Starts (heap : HeapTyping) (m : MemberReference) : Type 0 where
   fit : pointwise (is_of_type heap e) (parameter_locals e) (start_arguments places) ≡ true
   static : is_static_method method ≡ true
 
-nothing_taken : MethodType
+unfoldable pub nothing_taken : MethodType
 nothing_taken = record { parameters = []; result = None }
 
 program_arguments : MethodType
 program_arguments = record { parameters = array_of (class_type java_string) ∷ []; result = None }
 
-nothing_read : method_type_of (codes "()V") ≡ Some nothing_taken
+pub nothing_read : method_type_of (codes "()V") ≡ Some nothing_taken
 unfolding nothing_taken parameters_within type_at before_semicolon are_parts dimensions
 nothing_read = refl
 
@@ -200,7 +201,7 @@ module _ (heap : HeapTyping) (m : MemberReference) (arguments : heap.type_at 0 �
 
 -- A thread that begins its next method, or ends, is right.
 pub starts_next_is_right : (state : State) (live : ℕ → Bool) → IsRunnable state.world → (t : ℕ) (methods : List MemberReference)
-    → ConformsWith state live → list_all (can_begin state.world) methods ≡ true → IsRight state.world (starts_next t state methods)
+    → ConformsWith state live → list_all (can_begin state.world) methods ≡ true → IsTypedDeed state.world (starts_next t state methods)
 unfolding callers_conform
 starts_next_is_right state live runnable t [] is all = record {
   live = live;
@@ -216,14 +217,14 @@ starts_next_is_right state live runnable t (m ∷ rest) is all =
     rw (s.is_method, ap (λ (x : Method). x.code) (sym s.same_method) ∙ of.code, s.are_places, b.are_first)
     (either (waits t state (found_method m s.method) None) _ (begun s b.locals b.conforms p.1))
   where
-    either : (b : Bool) (deed : Deed) → IsRight state.world deed → IsRight state.world (if b then blocked else deed)
+    either : (b : Bool) (deed : Deed) → IsTypedDeed state.world deed → IsTypedDeed state.world (if b then blocked else deed)
     either true deed right = tt
     either false deed right = right
 
     begun : (s : Starts (heap_typing state live) m) (locals : List Value)
         → frame_conforms (heap_typing state live) (λ e. current_types e 0) (new_frame m None locals) ≡ true
         → list_all (can_begin state.world) rest ≡ true
-        → Conforms (with_thread t (started_with m rest locals) (entered_by t (found_method m s.method) None state))
+        → IsTypedState (with_thread t (started_with m rest locals) (entered_by t (found_method m s.method) None state))
     begun s locals conforms later =
         let f = entering t (found_method m s.method) None state live is in
         let after = entered_by t (found_method m s.method) None state in

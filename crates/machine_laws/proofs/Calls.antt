@@ -18,12 +18,12 @@ use Rattle.machine_model.specs.Conforms.{calls, result_types, current_types, wai
 use Rattle.frame_laws.proofs.Outcome.{both}
 use Rattle.frame_laws.proofs.Standing.{conforms_by}
 use Rattle.frame_laws.proofs.Growing.{frame_kept}
-use Rattle.machine_laws.specs.Deeds.{IsRight}
+use Rattle.machine_laws.proofs.TypedStates.{IsTypedDeed}
 use Rattle.machine_laws.proofs.Ready.{Ready, frames_set, locals_then, operands_then, held_then, callers_then}
 use Rattle.machine_laws.proofs.Beginning.{Begins, begins, entering}
 
 -- what a method holds is right: its receiver where it's synchronized and not static
-held_right : (heap : HeapTyping) (method : Method) (receiver : Option ℕ)
+pub held_right : (heap : HeapTyping) (method : Method) (receiver : Option ℕ)
     → ((id : ℕ) → receiver ≡ Some id → is_in_use heap id ≡ true)
     → (is_static_method method ≡ true) ⊎ (is_some receiver ≡ true) → holds_rightly heap method (held_by method receiver) ≡ true
 held_right heap method receiver used which = go (is_synchronized method) refl (is_static_method method) refl receiver used which
@@ -52,7 +52,7 @@ module _ (r : Running) (live : ℕ → Bool) (ready : Ready r live) where
       → (is_static_method found.member ≡ true) ⊎ (is_some receiver ≡ true)
       → calls found.member.descriptor ready.at.placed.instruction ≡ true
       → are_of_types heap ready.e (drop (length (result_types found.member.descriptor)) ready.at.applies.after.stack) (drop places r.frame.stack) ≡ true
-      → IsRight r.state.world (call_code r found body places receiver)
+      → IsTypedDeed r.state.world (call_code r found body places receiver)
   unfolding callers_conform
   call_code_is_right found body places receiver e environment same_method same_body fit used which is_call rest =
       let held = held_right heap found.member receiver used which in
@@ -61,14 +61,14 @@ module _ (r : Running) (live : ℕ → Bool) (ready : Ready r live) where
       rw (ap (λ (b : Body Operand). first_locals b (reverse (take places r.frame.stack))) (sym same_body) ∙ b.are_first)
       (either (waits r.thread r.state found receiver) (not (fits_stack r.state.world body (r.frame ∷ r.callers))) _ (called_right b))
     where
-      either : (wait deep : Bool) (deed : Deed) → IsRight r.state.world deed
-          → IsRight r.state.world (if wait then blocked else if deep then is_deep else deed)
+      either : (wait deep : Bool) (deed : Deed) → IsTypedDeed r.state.world deed
+          → IsTypedDeed r.state.world (if wait then blocked else if deep then is_deep else deed)
       either true deep deed right = tt
       either false true deed right = tt
       either false false deed right = right
 
       called_right : (b : Begins heap (method_found found) e (held_by found.member receiver) (reverse (take places r.frame.stack)))
-          → IsRight r.state.world (does 0 true (with_frames r (new_frame (method_found found) (held_by found.member receiver) b.locals ∷ calling r places ∷ r.callers) (entered_by r.thread found receiver r.state)))
+          → IsTypedDeed r.state.world (does 0 true (with_frames r (new_frame (method_found found) (held_by found.member receiver) b.locals ∷ calling r places ∷ r.callers) (entered_by r.thread found receiver r.state)))
       called_right b =
           let after = entered_by r.thread found receiver r.state in
           let f = entering r.thread found receiver r.state live ready.conforms in

@@ -5,7 +5,7 @@ use Rattle.std.specs.List.{list_all}
 use Rattle.std.proofs.lemmas.Bool.{and_parts, or_cases}
 use Rattle.std.proofs.lemmas.List.{append-nil}
 use lib.Pointwise.{pointwise}
-use Rattle.jv_model.specs.Partial.{passes, ◌>>=◌}
+use Rattle.jv_model.specs.Partial.{◌>>=◌}
 use Rattle.jv_model.specs.Descriptors.{FieldType, class_type, array_of}
 use Rattle.jv_model.specs.Operand.{Operand, class_named}
 use Rattle.jv_model.specs.Code.{Handler}
@@ -21,13 +21,13 @@ use Rattle.typing_model.specs.InstructionTypes.{type_step}
 use Rattle.typing_model.specs.Transition.{to, below, popped}
 use Rattle.machine_model.specs.Value.{Value, reference}
 use Rattle.machine_model.specs.Heap.{Contents, instance, array, string, contents_at, words_of}
-use Rattle.machine_model.specs.ObjectTypes.{own_type, component_of, array_type_of}
+use Rattle.machine_model.specs.ObjectTypes.{own_type}
 use Rattle.machine_model.specs.State.{Frame, Thread, State, with_thread}
 use Rattle.machine_model.specs.LocalStep.{instruction_at}
 use Rattle.machine_model.specs.Deed.{Running, class_of_contents, class_of}
 use Rattle.machine_model.specs.ObjectSteps.{new_contents}
 use Rattle.machine_model.specs.Throwing.{catches, handler_in, handler_of, left_by, caught_at, match_option, thrown_in, frames_of, thrown, throws_new, throw_object}
-use Rattle.machine_model.specs.TypedValues.{HeapTyping, heap_typing, may_stand, stands_for, is_of_type, are_of_types, fits_frame, holds}
+use Rattle.machine_model.specs.TypedValues.{HeapTyping, heap_typing, may_stand, stands_for, is_of_type, are_of_types, fits_frame}
 use Rattle.machine_model.specs.Conforms.{calls, result_types, current_types, waiting_types, holds_rightly, frame_environment, frame_conforms, callers_conform, frames_conform, can_begin, thread_conforms, contents_conform, ConformsWith}
 use Rattle.link_laws.proofs.Names.{same_text}
 use Rattle.frame_laws.proofs.Outcome.{some_inj, both, bind_is, when_is, map_is, popped_is, all_of}
@@ -36,7 +36,7 @@ use Rattle.frame_laws.proofs.Standing.{typed_frame, at_pc, conforms_is}
 use Rattle.frame_laws.proofs.Onward.{subsumes, arrives}
 use Rattle.frame_laws.proofs.Growing.{callers_kept}
 use Rattle.machine_laws.specs.Runnable.{IsRunnable, IsThrowable}
-use Rattle.machine_laws.specs.Deeds.{IsRight}
+use Rattle.machine_laws.proofs.TypedStates.{IsTypedDeed}
 use Rattle.machine_laws.proofs.Heaps.{typed_is, and_next, allocated, new_type}
 use Rattle.machine_laws.proofs.Ready.{Ready, allocating, frames_set, throws_rightly, operands_fit}
 use Rattle.machine_laws.proofs.Operands.{Object, no_object, object, class_object, take_wanted, one_place}
@@ -215,7 +215,7 @@ frames_of_chain state live is t = go (slice_get state.threads t) refl
 -- A throw of a throwable that is there is right.
 pub thrown_is_right : (state : State) (live : ℕ → Bool) → IsRunnable state.world → ConformsWith state live
     → (words t : ℕ) (name : List ℕ) (id : ℕ) (native : Bool) → (heap_typing state live).type_at id ≡ Some (class_type name)
-    → is_sub state.world name java_throwable ≡ true → IsRight state.world (thrown words t name id native state)
+    → is_sub state.world name java_throwable ≡ true → IsTypedDeed state.world (thrown words t name id native state)
 thrown_is_right state live runnable is words t name id native at below = record {
   live = live;
   is = thrown_conforms t name id (frames_of t state) state live runnable is (frames_of_chain state live is t) at below;
@@ -223,7 +223,7 @@ thrown_is_right state live runnable is words t name id native at below = record 
 
 -- A throw of a new object is right.
 pub throws_new_is_right : (state : State) (live : ℕ → Bool) → IsRunnable state.world → ConformsWith state live
-    → (t : ℕ) (name : List ℕ) (native : Bool) → IsThrowable state.world name → IsRight state.world (throws_new t name native state)
+    → (t : ℕ) (name : List ℕ) (native : Bool) → IsThrowable state.world name → IsTypedDeed state.world (throws_new t name native state)
 throws_new_is_right state live runnable is t name native throwable =
     let contents = new_contents state.world name in
     let f = allocating state live contents is (made_conforms (heap_typing (allocated state live contents) (and_next state live)) name throwable.present (runnable.fields name throwable.present)) in
@@ -256,7 +256,7 @@ module _ (r : Running) (live : ℕ → Bool) (ready : Ready r live) where
             | inr k ↦ k
           ]
 
-      of : (contents : Contents) (own : FieldType) → contents_at r.state.heap id ≡ Some contents → own_type contents ≡ Some own
+      of : (contents : Contents) (own : FieldType) → contents_at r.state.heap id ≡ Some contents → own_type contents ≡ own
           → (heap_typing r.state live).type_at id ≡ Some own
           → may_stand r.state.world own (class_type java_throwable) ≡ true → contents_conform (heap_typing r.state live) contents ≡ true
           → (name : List ℕ) × (class_of r.state id ≡ Some name) × ((heap_typing r.state live).type_at id ≡ Some (class_type name))
@@ -264,37 +264,29 @@ module _ (r : Running) (live : ℕ → Bool) (ready : Ready r live) where
       of (instance name values) own there same at stands conforms = (
         name,
         ap (option_and_then (λ contents. Some (class_of_contents contents))) there,
-        at ∙ sym same,
-        below name (subst (λ (t : FieldType). may_stand r.state.world t (class_type java_throwable) ≡ true) (sym (some_inj same)) stands),
+        at ∙ ap Some (sym same),
+        below name (subst (λ (t : FieldType). may_stand r.state.world t (class_type java_throwable) ≡ true) (sym same) stands),
       )
       of (string units) own there same at stands conforms = (
         java_string,
         ap (option_and_then (λ contents. Some (class_of_contents contents))) there,
-        at ∙ sym same,
-        below java_string (subst (λ (t : FieldType). may_stand r.state.world t (class_type java_throwable) ≡ true) (sym (some_inj same)) stands),
+        at ∙ ap Some (sym same),
+        below java_string (subst (λ (t : FieldType). may_stand r.state.world t (class_type java_throwable) ≡ true) (sym same) stands),
       )
-      of (array descriptor elements) own there same at stands conforms =
-          absurd (no_array (array_type_of descriptor) refl same)
-        where
-          no_array : (o : Option FieldType) → array_type_of descriptor ≡ o → o ≡ Some own → ⊥
-          no_array None is h = cc
-          no_array (Some (array_of c)) is h =
-              array_stands r.state.world c (subst (λ (t : FieldType). may_stand r.state.world t (class_type java_throwable) ≡ true) (sym (some_inj h)) stands) ready.runnable.throwable_class
-          no_array (Some t) is h =
-              let none : contents_conform (heap_typing r.state live) (array descriptor elements) ≡ false = ap (λ (o : Option FieldType). passes (λ type. list_all (holds (heap_typing r.state live) type) elements) (option_and_then component_of o)) is in
-              let yes = conforms in cc
+      of (array type elements) own there same at stands conforms =
+          absurd (array_stands r.state.world type (subst (λ (t : FieldType). may_stand r.state.world t (class_type java_throwable) ≡ true) (sym same) stands) ready.runnable.throwable_class)
 
   -- `athrow` is right
   pub throw_is_right : popped (to ready.e (class java_throwable) ∷ []) ready.before ≡ Some ready.at.applies.after
-      → IsRight r.state.world (throw_object r r.frame.stack)
+      → IsTypedDeed r.state.world (throw_object r r.frame.stack)
   throw_is_right h =
       let p = popped_is (to ready.e (class java_throwable) ∷ []) ready.before ready.at.applies.after h in
       let x = take_wanted (heap_typing r.state live) ready.e (subsumes (heap_typing r.state live) ready.runnable.verified ready.e ready.typed) (class java_throwable) [] ready.before.stack p.0 r.frame.stack refl p.1 (operands_fit r live ready) in
-      subst (λ (vs : List Value). IsRight r.state.world (throw_object r vs)) (sym (x.is ∙ one_place (heap_typing r.state live) ready.e (class java_throwable) x.value x.others refl x.of))
+      subst (λ (vs : List Value). IsTypedDeed r.state.world (throw_object r vs)) (sym (x.is ∙ one_place (heap_typing r.state live) ready.e (class java_throwable) x.value x.others refl x.of))
       (of x.value x.others (class_object (heap_typing r.state live) ready.e java_throwable x.value x.of))
     where
       of : (value : Value) (others : List Value) → Object (heap_typing r.state live) ready.e (class_type java_throwable) value
-          → IsRight r.state.world (throw_object r (value ∷ others))
+          → IsTypedDeed r.state.world (throw_object r (value ∷ others))
       of _ others no_object = throws_rightly r live ready (codes "java/lang/NullPointerException") false refl
       of _ others (object id stands) =
           let c = throwable_there id stands in

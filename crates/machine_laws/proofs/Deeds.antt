@@ -20,19 +20,19 @@ use Rattle.machine_model.specs.Deed.{Running}
 use Rattle.machine_model.specs.SharedStep.{shared_step, deed_at}
 use Rattle.machine_model.specs.TypedValues.{HeapTyping, heap_typing}
 use Rattle.machine_model.specs.Conforms.{called, calls, current_types, frame_conforms, callers_conform}
-use Rattle.code_model.specs.TypeReading.{descriptor_of, field_type_of}
+use Rattle.code_model.specs.TypeReading.{field_type_of}
 use Rattle.typing_model.specs.Environment.{named_type}
 use Rattle.typing_model.specs.Transition.{to, popped, pushed, changed}
 use Rattle.typing_model.specs.VerificationType.{class, new_at, is_array, has, type_of}
 use Rattle.typing_model.specs.MemberTypes.{is_owner}
 use Rattle.link_laws.proofs.Names.{text_same}
-use Rattle.typing_model.specs.ObjectTypes.{forgotten}
+use Rattle.typing_model.specs.ObjectTypes.{primitive_type, forgotten}
 use Rattle.machine_model.specs.TypedValues.{class_made, class_made_at}
 use Rattle.machine_laws.proofs.Calling.{unless_is}
 use Rattle.machine_laws.proofs.Numbers.{divide_ints_is_right, divide_longs_is_right}
 use Rattle.machine_laws.proofs.ArrayLoads.{load_element_is_right}
 use Rattle.machine_laws.proofs.ArrayStores.{store_element_is_right}
-use Rattle.machine_laws.proofs.Objects.{array_length_is_right, new_array_is_right, primitives_are_right, enter_is_right, exit_is_right}
+use Rattle.machine_laws.proofs.Objects.{array_length_is_right, new_array_is_right, enter_is_right, exit_is_right}
 use Rattle.machine_laws.proofs.Making.{new_is_right, check_cast_is_right, instance_of_is_right, load_string_is_right}
 use Rattle.machine_laws.proofs.Fields.{get_static_is_right, put_static_is_right, get_field_is_right, put_field_is_right}
 use Rattle.machine_laws.proofs.Returns.{return_value_is_right, return_void_is_right}
@@ -44,7 +44,7 @@ use Rattle.frame_laws.proofs.LocalSoundness.{local_step_is_sound}
 use Rattle.frame_laws.proofs.Standing.{Parts}
 use Rattle.frame_laws.proofs.Onward.{sound_keeps}
 use Rattle.machine_laws.specs.Runnable.{Uses}
-use Rattle.machine_laws.specs.Deeds.{IsRight}
+use Rattle.machine_laws.proofs.TypedStates.{IsTypedDeed}
 use Rattle.machine_laws.proofs.Ready.{Ready, frames_set}
 
 -- ---- local instructions
@@ -102,7 +102,7 @@ module _ (r : Running) (live : ℕ → Bool) (ready : Ready r live) where
   }
 
   -- a local step that is kept is right
-  kept_right : (step : Local) → is_not_local step ≡ false → Keeps heap r.frame step → IsRight r.state.world (deed_at r step)
+  kept_right : (step : Local) → is_not_local step ≡ false → Keeps heap r.frame step → IsTypedDeed r.state.world (deed_at r step)
   kept_right wrong local kept = kept
   kept_right not_local local kept = absurd cc
   kept_right (goes_to next) local kept = record {
@@ -114,7 +114,7 @@ module _ (r : Running) (live : ℕ → Bool) (ready : Ready r live) where
 
   -- a local instruction is right
   local_right : (i : Instruction Operand) → ready.at.placed.instruction ≡ i
-      → is_not_local (local_step_of r.body r.placed r.frame i) ≡ false → IsRight r.state.world (deed_at r (local_step_of r.body r.placed r.frame i))
+      → is_not_local (local_step_of r.body r.placed r.frame i) ≡ false → IsTypedDeed r.state.world (deed_at r (local_step_of r.body r.placed r.frame i))
   local_right i same local =
       kept_right (local_step_of r.body r.placed r.frame i) local
       (subst (λ (b : Body Operand). Keeps heap r.frame (local_step_of b r.placed r.frame i)) (sym ready.same_body)
@@ -127,9 +127,9 @@ module _ (r : Running) (live : ℕ → Bool) (ready : Ready r live) where
 
   -- where a used static field's type is the one that typing reads
   shared_right : (i : Instruction Operand) → ready.at.placed.instruction ≡ i
-      → IsRight r.state.world (shared_step r i) → IsRight r.state.world (deed_at r not_local)
+      → IsTypedDeed r.state.world (shared_step r i) → IsTypedDeed r.state.world (deed_at r not_local)
   shared_right i same right =
-      subst (λ (j : Instruction Operand). IsRight r.state.world (shared_step r j)) (sym (ap (λ (p : Placed Operand). p.instruction) ready.same_placed ∙ same)) right
+      subst (λ (j : Instruction Operand). IsTypedDeed r.state.world (shared_step r j)) (sym (ap (λ (p : Placed Operand). p.instruction) ready.same_placed ∙ same)) right
 
   -- flow goes on behind it
   on_at : (i : Instruction Operand) → ready.at.placed.instruction ≡ i → goes_on i ≡ true → goes_on ready.at.placed.instruction ≡ true
@@ -154,7 +154,7 @@ module _ (r : Running) (live : ℕ → Bool) (ready : Ready r live) where
   -- each instruction is right
   pub instruction_right : (i : Instruction Operand) → ready.at.placed.instruction ≡ i
       → type_step ready.e ready.at.placed.pc i ready.before ≡ Some ready.at.applies.after → Uses r.state.world ready.e i
-      → IsRight r.state.world (deed_at r (local_step_of r.body r.placed r.frame i))
+      → IsTypedDeed r.state.world (deed_at r (local_step_of r.body r.placed r.frame i))
   unfolding type_step local_step_of shared_step Uses goes_on
   instruction_right nop same h used = local_right nop same refl
   instruction_right aconst_null same h used = local_right aconst_null same (with_is r.body r.placed r.frame (Some (onto null r.frame.stack)))
@@ -179,7 +179,7 @@ module _ (r : Running) (live : ℕ → Bool) (ready : Ready r live) where
   instruction_right (int_arithmetic operation) same h used = go (is_division operation) refl
     where
       go : (b : Bool) → is_division operation ≡ b
-          → IsRight r.state.world (deed_at r (if is_division operation then not_local else goes_on_with r.body r.placed r.frame (on_two_ints (λ a b. int (arithmetic_result w32 operation a b)) r.frame.stack)))
+          → IsTypedDeed r.state.world (deed_at r (if is_division operation then not_local else goes_on_with r.body r.placed r.frame (on_two_ints (λ a b. int (arithmetic_result w32 operation a b)) r.frame.stack)))
       go true is = rw is (shared_right (int_arithmetic operation) same (divide_ints_is_right r live ready (on_at (int_arithmetic operation) same refl) operation h))
       go false is = local_right (int_arithmetic operation) same (rw is (with_is r.body r.placed r.frame (on_two_ints (λ a b. int (arithmetic_result w32 operation a b)) r.frame.stack)))
   instruction_right (int_shift shift) same h used =
@@ -189,7 +189,7 @@ module _ (r : Running) (live : ℕ → Bool) (ready : Ready r live) where
   instruction_right (long_arithmetic operation) same h used = go (is_division operation) refl
     where
       go : (b : Bool) → is_division operation ≡ b
-          → IsRight r.state.world (deed_at r (if is_division operation then not_local else goes_on_with r.body r.placed r.frame (on_two_longs (λ a b. long (arithmetic_result w64 operation a b)) r.frame.stack)))
+          → IsTypedDeed r.state.world (deed_at r (if is_division operation then not_local else goes_on_with r.body r.placed r.frame (on_two_longs (λ a b. long (arithmetic_result w64 operation a b)) r.frame.stack)))
       go true is = rw is (shared_right (long_arithmetic operation) same (divide_longs_is_right r live ready (on_at (long_arithmetic operation) same refl) operation h))
       go false is = local_right (long_arithmetic operation) same (rw is (with_is r.body r.placed r.frame (on_two_longs (λ a b. long (arithmetic_result w64 operation a b)) r.frame.stack)))
   instruction_right (long_shift shift) same h used =
@@ -249,9 +249,9 @@ module _ (r : Running) (live : ℕ → Bool) (ready : Ready r live) where
       shared_right (new (class_named name)) same (new_is_right r live ready (on_at (new (class_named name)) same refl) name used.0 (made_here name same) w.1)
   instruction_right (new operand) same h used = absurd cc
   instruction_right (newarray type) same h used =
-      shared_right (newarray type) same (primitives_are_right r live ready (on_at (newarray type) same refl) type h)
+      shared_right (newarray type) same (new_array_is_right r live ready (on_at (newarray type) same refl) (primitive_type type) h)
   instruction_right (anewarray (class_named name)) same h used =
-      shared_right (anewarray (class_named name)) same (new_array_is_right r live ready (on_at (anewarray (class_named name)) same refl) (descriptor_of (named_type name)) (named_type name) used h)
+      shared_right (anewarray (class_named name)) same (new_array_is_right r live ready (on_at (anewarray (class_named name)) same refl) (named_type name) h)
   instruction_right (anewarray operand) same h used = absurd cc
   instruction_right arraylength same h used = shared_right arraylength same (array_length_is_right r live ready (on_at arraylength same refl) h)
   instruction_right athrow same h used = shared_right athrow same (throw_is_right r live ready h)

@@ -1,11 +1,11 @@
 -- `getstatic`, `putstatic`, `getfield` and `putfield` are right.
-use Rattle.std.proofs.Common.{◌≡◌, ℕ, suc, zero, ◌<◌, List, [], ◌∷◌, Option, Some, None, Bool, true, false, refl, ap, sym, subst, ◌∙◌, if◌then◌else◌, cond, length, slice_get, slice_set, option_and_then, option_map, codes, map, find, nat_le, arith}
+use Rattle.std.proofs.Common.{◌≡◌, ℕ, suc, zero, ◌<◌, List, [], ◌∷◌, Option, Some, Bool, true, false, refl, ap, sym, subst, ◌∙◌, if◌then◌else◌, cond, length, slice_get, slice_set, option_and_then, option_map, codes, map, find, nat_le, arith}
 use Rattle.std.specs.Prelude.{bytes_eq, ◌||◌, not, ◌&&◌}
 use Rattle.std.specs.List.{list_all, list_any}
 use Rattle.std.proofs.lemmas.Bool.{and_parts, le-leb}
 use lib.Pointwise.{pointwise}
 use Rattle.jv_model.specs.Partial.{passes}
-use Rattle.jv_model.specs.Descriptors.{FieldType, class_type, array_of}
+use Rattle.jv_model.specs.Descriptors.{FieldType, class_type}
 use Rattle.jv_model.specs.Operand.{MemberReference}
 use Rattle.jv_model.specs.Flow.{goes_on as flow_goes_on}
 use Rattle.jv_model.specs.Instruction.{ValueKind, of_int, of_long, of_reference}
@@ -17,9 +17,9 @@ use Rattle.typing_model.specs.VerificationType.{VerificationType, this, class, t
 use Rattle.typing_model.specs.MemberTypes.{is_owner, is_own_field}
 use Rattle.typing_model.specs.Environment.{is_constructor}
 use Rattle.typing_model.specs.Transition.{Test, to, below, popped, pushed, changed}
-use Rattle.machine_model.specs.Value.{Value, int, long, half, null, reference, onto, taken_of, is_of_kind, kind_of}
-use Rattle.machine_model.specs.Heap.{Contents, instance, array, string, contents_at, with_contents}
-use Rattle.machine_model.specs.ObjectTypes.{own_type, array_type_of, component_of}
+use Rattle.machine_model.specs.Value.{Value, int, long, half, null, reference, onto, taken_of, is_of_kind, kind_of, kind_of_type}
+use Rattle.machine_model.specs.Heap.{Heap, Contents, instance, array, string, contents_at, with_contents}
+use Rattle.machine_model.specs.ObjectTypes.{own_type}
 use Rattle.machine_model.specs.State.{Static, State, static_value, with_static}
 use Rattle.machine_model.specs.Deed.{Running, goes_on}
 use Rattle.machine_model.specs.FieldSteps.{field_in, field_at, with_field, with_field_at, reads, get_static, put_static, get_field, put_field}
@@ -31,11 +31,11 @@ use Rattle.frame_laws.proofs.Verified.{some_and_is}
 use Rattle.frame_laws.proofs.Onward.{subsumes}
 use Rattle.frame_laws.proofs.Growing.{pairs_pass, declared_kept}
 use Rattle.machine_laws.specs.Runnable.{is_operand, StaticUse, HasPlace, PlaceUse, FieldUse}
-use Rattle.machine_laws.specs.Deeds.{IsRight}
+use Rattle.machine_laws.proofs.TypedStates.{IsTypedDeed}
 use Rattle.machine_laws.proofs.Heaps.{typed_is, rewriting_grows}
 use Rattle.machine_laws.proofs.Ready.{Ready, Follows, itself, rewriting, throws_rightly, operands_fit, operands_then, pushes_rightly, pops_rightly}
 use Rattle.machine_laws.proofs.Operands.{lands, Object, no_object, object, class_object, held_of_type, of_type_held, TakesWanted, take_wanted, one_place, when_test}
-use Rattle.machine_laws.proofs.Zeros.{kind_of_type, kind_read, held_kind, read_too}
+use Rattle.machine_laws.proofs.Zeros.{kind_read, held_kind, read_too}
 use Rattle.machine_laws.proofs.Making.{found_passes}
 
 -- ---- lists
@@ -117,7 +117,7 @@ module _ (r : Running) (live : ℕ → Bool) (ready : Ready r live) (on : flow_g
       → holds heap type value ≡ true
       → pushed ready.e (type_of type ∷ []) (record ready.before { stack = below }) ≡ Some ready.at.applies.after
       → are_of_types heap ready.e below others ≡ true
-      → IsRight r.state.world (reads r field others value)
+      → IsTypedDeed r.state.world (reads r field others value)
   reads_rightly field m type value under others same is operand held h f =
       let kind : kind_of field.descriptor ≡ kind_of_type type = ap kind_of same ∙ kind_read heap m.descriptor type (read_too heap m.descriptor type is) in
       rw (ap (λ (k : ValueKind). is_of_kind k value) kind ∙ held_kind heap type value held)
@@ -140,7 +140,7 @@ module _ (r : Running) (live : ℕ → Bool) (ready : Ready r live) (on : flow_g
   -- `getstatic` is right
   pub get_static_is_right : (m : MemberReference) (used : StaticUse r.state.world m)
       → pushed ready.e (type_of used.type ∷ []) ready.before ≡ Some ready.at.applies.after
-      → IsRight r.state.world (get_static r m)
+      → IsTypedDeed r.state.world (get_static r m)
   get_static_is_right m used h =
       let v = static_held m used in
       rw (used.resolved, v.1) (reads_rightly used.field m used.type v.0 ready.before.stack r.frame.stack used.same_descriptor used.is_type used.has_values v.2 h (operands_fit r live ready))
@@ -206,7 +206,7 @@ module _ (r : Running) (live : ℕ → Bool) (ready : Ready r live) (on : flow_g
   -- `putstatic` is right
   pub put_static_is_right : (m : MemberReference) (used : StaticUse r.state.world m)
       → popped (to ready.e (type_of used.type) ∷ []) ready.before ≡ Some ready.at.applies.after
-      → IsRight r.state.world (put_static r m)
+      → IsTypedDeed r.state.world (put_static r m)
   unfolding below
   put_static_is_right m used h =
       let p = popped_is (to ready.e (type_of used.type) ∷ []) ready.before ready.at.applies.after h in
@@ -221,30 +221,30 @@ module _ (r : Running) (live : ℕ → Bool) (ready : Ready r live) (on : flow_g
   -- ---- fields of objects
 
   -- An object that has a field: its class, its values, and the field's value.
-  record FieldThere (id : ℕ) (field : MemberReference) : Type 0 where
-    name : List ℕ
-    values : List Value
-    there : contents_at r.state.heap id ≡ Some (instance name values)
-    place : HasPlace r.state.world name field
-    value : Value
-    at_place : slice_get values place.place ≡ Some value
-    declared : is_declared heap place.member.descriptor value ≡ true
-    conforms : contents_conform heap (instance name values) ≡ true
+  pub record FieldThere (id : ℕ) (field : MemberReference) : Type 0 where
+    pub name : List ℕ
+    pub values : List Value
+    pub there : contents_at r.state.heap id ≡ Some (instance name values)
+    pub place : HasPlace r.state.world name field
+    pub value : Value
+    pub at_place : slice_get values place.place ≡ Some value
+    pub declared : is_declared heap place.member.descriptor value ≡ true
+    pub conforms : contents_conform heap (instance name values) ≡ true
 
   -- an object that stands for a class has the field
-  field_there : (owner : List ℕ) (field : MemberReference) (id : ℕ) → PlaceUse r.state.world owner field
+  pub field_there : (owner : List ℕ) (field : MemberReference) (id : ℕ) → PlaceUse r.state.world owner field
       → stands_for heap id (class_type owner) ≡ true → FieldThere id field
   field_there owner field id places h =
       let own = some_and_is (λ own. may_stand r.state.world own (class_type owner)) (heap.type_at id) h in
       let is = typed_is r.state live id own.0 own.1 in
       of is.1 own.0 is.2 is.3 own.2 (ready.conforms.shared.objects id is.1 is.0 is.2)
     where
-      of : (contents : Contents) (own : FieldType) → contents_at r.state.heap id ≡ Some contents → own_type contents ≡ Some own
+      of : (contents : Contents) (own : FieldType) → contents_at r.state.heap id ≡ Some contents → own_type contents ≡ own
           → may_stand r.state.world own (class_type owner) ≡ true → contents_conform heap contents ≡ true → FieldThere id field
       of (instance name values) own at same stands conforms =
           let parts = and_parts (is_present r.state.world name && not (bytes_eq name java_string)) (pointwise (λ (f : MemberReference) value. is_declared heap f.descriptor value) (layout r.state.world name) values) conforms in
           let present = (and_parts (is_present r.state.world name) (not (bytes_eq name java_string)) parts.0).0 in
-          let place = places.objects name present (subst (λ (t : FieldType). may_stand r.state.world t (class_type owner) ≡ true) (sym (some_inj same)) stands) in
+          let place = places.objects name present (subst (λ (t : FieldType). may_stand r.state.world t (class_type owner) ≡ true) (sym same) stands) in
           let value = paired (λ (f : MemberReference) value. is_declared heap f.descriptor value) (layout r.state.world name) values place.place place.member parts.1 place.is_member in
           record {
             name = name;
@@ -257,20 +257,13 @@ module _ (r : Running) (live : ℕ → Bool) (ready : Ready r live) (on : flow_g
             conforms = conforms;
           }
       of (string units) own at same stands conforms =
-          let place = places.objects java_string ready.runnable.strings (subst (λ (t : FieldType). may_stand r.state.world t (class_type owner) ≡ true) (sym (some_inj same)) stands) in
+          let place = places.objects java_string ready.runnable.strings (subst (λ (t : FieldType). may_stand r.state.world t (class_type owner) ≡ true) (sym same) stands) in
           absurd (let no = place.no_string in let yes = text_same java_string java_string refl in cc)
-      of (array descriptor elements) own at same stands conforms = go (array_type_of descriptor) refl same
-        where
-          -- the type of an array's descriptor is that of an array, since it has elements
-          go : (o : Option FieldType) → array_type_of descriptor ≡ o → o ≡ Some own → FieldThere id field
-          go None is h = absurd cc
-          go (Some (array_of c)) is h =
-              absurd (let no = places.no_arrays c in let yes = subst (λ (t : FieldType). may_stand r.state.world t (class_type owner) ≡ true) (sym (some_inj h)) stands in cc)
-          go (Some t) is h =
-              absurd (let none : contents_conform heap (array descriptor elements) ≡ false = ap (λ (o : Option FieldType). passes (λ type. list_all (holds heap type) elements) (option_and_then component_of o)) is in let yes = conforms in cc)
+      of (array type elements) own at same stands conforms =
+          absurd (let no = places.no_arrays type in let yes = subst (λ (t : FieldType). may_stand r.state.world t (class_type owner) ≡ true) (sym same) stands in cc)
 
   -- the field of such an object is found, and holds a value of its type
-  field_found : (id : ℕ) (m field : MemberReference) (type : FieldType) (f : FieldThere id field) → field.descriptor ≡ m.descriptor
+  pub field_found : (id : ℕ) (m field : MemberReference) (type : FieldType) (f : FieldThere id field) → field.descriptor ≡ m.descriptor
       → field_type_of m.descriptor ≡ Some type → (field_at r.state id field ≡ Some f.value) × (holds heap type f.value ≡ true)
   field_found id m field type f same is = (
     ap (option_and_then (λ contents. field_in r.state.world contents field)) f.there
@@ -281,7 +274,7 @@ module _ (r : Running) (live : ℕ → Bool) (ready : Ready r live) (on : flow_g
   -- `getfield` is right
   pub get_field_is_right : (m : MemberReference) (used : FieldUse r.state.world m)
       → changed ready.e (to ready.e (class m.class) ∷ []) (type_of used.type ∷ []) ready.before ≡ Some ready.at.applies.after
-      → IsRight r.state.world (get_field r m)
+      → IsTypedDeed r.state.world (get_field r m)
   unfolding below
   get_field_is_right m used h =
       let c = changed_is ready.e (to ready.e (class m.class) ∷ []) (type_of used.type ∷ []) ready.before ready.at.applies.after h in
@@ -290,7 +283,7 @@ module _ (r : Running) (live : ℕ → Bool) (ready : Ready r live) (on : flow_g
     where
       of : (rest : List VerificationType) (value : Value) (others : List Value) → r.frame.stack ≡ value ∷ others
           → pushed ready.e (type_of used.type ∷ []) (record ready.before { stack = rest }) ≡ Some ready.at.applies.after
-          → are_of_types heap ready.e rest others ≡ true → Object heap ready.e (class_type m.class) value → IsRight r.state.world (get_field r m)
+          → are_of_types heap ready.e rest others ≡ true → Object heap ready.e (class_type m.class) value → IsTypedDeed r.state.world (get_field r m)
       of rest _ others is h f no_object =
           rw (ap (taken_of of_reference) is) (throws_rightly r live ready (codes "java/lang/NullPointerException") false refl)
       of rest _ others is h f (object id stands) =
@@ -300,13 +293,11 @@ module _ (r : Running) (live : ℕ → Bool) (ready : Ready r live) (on : flow_g
           (reads_rightly used.field m used.type there.value rest others used.same_descriptor used.is_type used.has_values found.1 h f)
 
   -- a field of an object gets a value of its type
-  puts_rightly : (id : ℕ) (m field : MemberReference) (type : FieldType) (f : FieldThere id field) (value : Value)
-      (rest : List VerificationType) (others : List Value) → field.descriptor ≡ m.descriptor
-      → field_type_of m.descriptor ≡ Some type → holds heap type value ≡ true
-      → record ready.before { stack = rest } ≡ ready.at.applies.after → are_of_types heap ready.e rest others ≡ true
-      → nat_le (length others) (length r.frame.stack) ≡ true
-      → (state : State) × (with_field_at r.state id field value ≡ Some state) × IsRight r.state.world (goes_on r state others)
-  puts_rightly id m field type f value rest others same is held h fit fewer =
+  pub field_put : (id : ℕ) (m field : MemberReference) (type : FieldType) (f : FieldThere id field) (value : Value)
+      → field.descriptor ≡ m.descriptor → field_type_of m.descriptor ≡ Some type → holds heap type value ≡ true
+      → (objects : Heap) × (with_field_at r.state id field value ≡ Some (record r.state { heap = objects }))
+      × Follows r.state live (record r.state { heap = objects }) live
+  field_put id m field type f value same is held =
       let contents : Contents = instance f.name (slice_set f.values f.place.place value) in
       let after : State = record r.state { heap = with_contents id contents r.state.heap } in
       let grows = rewriting_grows r.state live id (instance f.name f.values) contents f.there refl in
@@ -316,10 +307,25 @@ module _ (r : Running) (live : ℕ → Bool) (ready : Ready r live) (on : flow_g
       (pairs_pass (λ (f : MemberReference) value. is_declared heap f.descriptor value) (λ (f : MemberReference) value. is_declared (heap_typing after live) f.descriptor value) (λ f v k. declared_kept r.state.world heap.type_at (heap_typing after live).type_at grows f.descriptor v k) (layout r.state.world f.name) (slice_set f.values f.place.place value)
       (paired_set (λ (f : MemberReference) value. is_declared heap f.descriptor value) (layout r.state.world f.name) f.values f.place.place f.place.member value parts.1 f.place.is_member
       (held_declared heap f.place.member.descriptor type value (ap field_type_of (f.place.same_descriptor ∙ same) ∙ is) held)))) in (
-        after,
+        with_contents id contents r.state.heap,
         ap (λ (o : Option Contents). option_map (λ contents. record r.state { heap = with_contents id contents r.state.heap }) (option_and_then (with_field r.state.world field value) o)) f.there
             ∙ ap (λ (o : Option ℕ). option_map (λ contents. record r.state { heap = with_contents id contents r.state.heap }) (option_map (λ place. instance f.name (slice_set f.values place value)) o)) f.place.is_place,
-        pops_rightly r live ready after live follows 0 false rest others on h (operands_then r live ready after live follows rest others fit) fewer,
+        follows,
+      )
+
+  -- and the instruction goes on
+  puts_rightly : (id : ℕ) (m field : MemberReference) (type : FieldType) (f : FieldThere id field) (value : Value)
+      (rest : List VerificationType) (others : List Value) → field.descriptor ≡ m.descriptor
+      → field_type_of m.descriptor ≡ Some type → holds heap type value ≡ true
+      → record ready.before { stack = rest } ≡ ready.at.applies.after → are_of_types heap ready.e rest others ≡ true
+      → nat_le (length others) (length r.frame.stack) ≡ true
+      → (state : State) × (with_field_at r.state id field value ≡ Some state) × IsTypedDeed r.state.world (goes_on r state others)
+  puts_rightly id m field type f value rest others same is held h fit fewer =
+      let put = field_put id m field type f value same is held in
+      let after : State = record r.state { heap = put.0 } in (
+        after,
+        put.1,
+        pops_rightly r live ready after live put.2 0 false rest others on h (operands_then r live ready after live put.2 rest others fit) fewer,
       )
 
   -- an object into which a field is put, or null
@@ -356,7 +362,7 @@ module _ (r : Running) (live : ℕ → Bool) (ready : Ready r live) (on : flow_g
   pub put_field_is_right : (m : MemberReference) (used : FieldUse r.state.world m)
       → (is_own_field ready.e m ≡ true → PlaceUse r.state.world ready.e.class.name used.field)
       → popped (to ready.e (type_of used.type) ∷ is_owner ready.e m ∷ []) ready.before ≡ Some ready.at.applies.after
-      → IsRight r.state.world (put_field r m)
+      → IsTypedDeed r.state.world (put_field r m)
   put_field_is_right m used own h =
       let p = popped_is (to ready.e (type_of used.type) ∷ is_owner ready.e m ∷ []) ready.before ready.at.applies.after h in
       let t = value_taken m.descriptor used.type (is_owner ready.e m ∷ []) p.0 used.is_type used.has_values p.1 in
@@ -366,7 +372,7 @@ module _ (r : Running) (live : ℕ → Bool) (ready : Ready r live) (on : flow_g
           → holds heap used.type x.value ≡ true
           → taken_of (kind_of m.descriptor) r.frame.stack ≡ Some (record { value = x.value; rest = x.others })
           → record ready.before { stack = rest } ≡ ready.at.applies.after → OwnerOn m used.field rest x.others
-          → IsRight r.state.world (put_field r m)
+          → IsTypedDeed r.state.world (put_field r m)
       of rest x held taken h (no_owner others is) =
           rw (taken, ap (taken_of of_reference) is) (throws_rightly r live ready (codes "java/lang/NullPointerException") false refl)
       of rest x held taken h (owner_on id others is there f) =

@@ -1,7 +1,6 @@
 -- What changes of the heap leave conforming: a further object, other contents of one, a monitor that is entered or left.
-use Rattle.std.proofs.Common.{◌≡◌, ℕ, zero, suc, List, [], ◌∷◌, ◌++◌, Option, Some, None, Bool, true, false, refl, ap, sym, subst, ◌&&◌, ◌||◌, ◌==◌, slice_get, length, if◌then◌else◌, option_map, option_and_then, map, inl, inr, arith, ◌∙◌}
+use Rattle.std.proofs.Common.{◌≡◌, ℕ, zero, suc, List, [], ◌∷◌, ◌++◌, Option, Some, None, Bool, true, false, refl, ap, sym, subst, ◌&&◌, ◌||◌, ◌==◌, slice_get, length, if◌then◌else◌, option_map, map, inl, inr, arith, ◌∙◌}
 use Rattle.std.specs.Prelude.{◌⊎◌, IsTrue, not, bytes_eq}
-use Rattle.std.specs.List.{list_all}
 use Rattle.std.proofs.lemmas.Bool.{and_parts, or_left, or_right, or_cases, eqb-true, eq-eqb}
 use Rattle.std.proofs.lemmas.Option.{slice_get_within}
 use Rattle.jv_model.specs.Partial.{passes}
@@ -11,14 +10,14 @@ use Rattle.world_model.specs.World.{World}
 use Rattle.world_model.specs.BootNames.{java_string}
 use Rattle.world_model.specs.Layout.{layout}
 use Rattle.machine_model.specs.Heap.{Contents, instance, array, string, Object, free, Monitor, Heap, contents_at, with_object, with_contents, with_monitor}
-use Rattle.machine_model.specs.ObjectTypes.{own_type, element_type}
+use Rattle.machine_model.specs.ObjectTypes.{own_type}
 use Rattle.machine_model.specs.State.{Static, ClassMonitor, Interned, State, with_class_monitor}
 use Rattle.machine_model.specs.Monitors.{change_monitor}
 use Rattle.machine_model.specs.TypedValues.{heap_typing, is_in_use, holds, is_declared}
 use Rattle.machine_model.specs.Conforms.{is_present, contents_conform, is_string, literal_conforms, SharedConforms}
 use Rattle.run_laws.proofs.Keeping.{slice_get-replace_at, slice_get-replace_same}
 use Rattle.frame_laws.proofs.Outcome.{some_inj, both, map_is}
-use Rattle.frame_laws.proofs.Growing.{all_pass, passes_too, pairs_pass, in_use_kept, holds_kept, declared_kept}
+use Rattle.frame_laws.proofs.Growing.{all_pass, pairs_pass, in_use_kept, holds_kept, declared_kept}
 
 -- ---- lists with one element more
 
@@ -49,20 +48,20 @@ get_either (z ∷ xs) x y (suc n) h = up (get_either xs x y n h)
 -- what it takes for an object in use to have a type
 pub typed_is : (state : State) (live : ℕ → Bool) (id : ℕ) (type : FieldType)
     → (heap_typing state live).type_at id ≡ Some type
-    → (live id ≡ true) × (contents : Contents) × (contents_at state.heap id ≡ Some contents) × (own_type contents ≡ Some type)
+    → (live id ≡ true) × (contents : Contents) × (contents_at state.heap id ≡ Some contents) × (own_type contents ≡ type)
 typed_is state live id type h = go (live id) refl (contents_at state.heap id) refl h
   where
     go : (b : Bool) → live id ≡ b → (o : Option Contents) → contents_at state.heap id ≡ o
-        → (if b then option_and_then own_type o else None) ≡ Some type
-        → (live id ≡ true) × (contents : Contents) × (contents_at state.heap id ≡ Some contents) × (own_type contents ≡ Some type)
+        → (if b then option_map own_type o else None) ≡ Some type
+        → (live id ≡ true) × (contents : Contents) × (contents_at state.heap id ≡ Some contents) × (own_type contents ≡ type)
     go false l o c h = absurd cc
     go true l None c h = absurd cc
-    go true l (Some contents) c h = (l, contents, c, h)
+    go true l (Some contents) c h = (l, contents, c, some_inj h)
 
 pub typed_by : (state : State) (live : ℕ → Bool) (id : ℕ) (contents : Contents) (type : FieldType) → live id ≡ true
-    → contents_at state.heap id ≡ Some contents → own_type contents ≡ Some type
+    → contents_at state.heap id ≡ Some contents → own_type contents ≡ type
     → (heap_typing state live).type_at id ≡ Some type
-typed_by state live id contents type l at own = rw (l, at) own
+typed_by state live id contents type l at own = rw (l, at) (ap Some own)
 
 -- ---- contents
 
@@ -75,9 +74,8 @@ module _ (world : World) (one other : ℕ → Option FieldType)
       let p = and_parts (is_present world name && not (bytes_eq name java_string)) _ h in
       both (is_present world name && not (bytes_eq name java_string)) _ p.0
       (pairs_pass (λ (f : MemberReference) value. is_declared (record { world = world; type_at = one }) f.descriptor value) (λ (f : MemberReference) value. is_declared (record { world = world; type_at = other }) f.descriptor value) (λ f value k. declared_kept world one other grows f.descriptor value k) (layout world name) values p.1)
-  contents_kept (array descriptor elements) h =
-      passes_too (λ type. list_all (holds (record { world = world; type_at = one }) type) elements) (λ type. list_all (holds (record { world = world; type_at = other }) type) elements)
-      (λ type k. all_pass (holds (record { world = world; type_at = one }) type) (holds (record { world = world; type_at = other }) type) (λ value j. holds_kept world one other grows type value j) elements k) (element_type descriptor) h
+  contents_kept (array type elements) h =
+      all_pass (holds (record { world = world; type_at = one }) type) (holds (record { world = world; type_at = other }) type) (λ value j. holds_kept world one other grows type value j) elements h
   contents_kept (string units) h = refl
 
 -- ---- another heap
@@ -142,7 +140,7 @@ module _ (state : State) (live : ℕ → Bool) (contents : Contents) where
       let is = typed_is state live id type h in
       typed_by allocated (and_next state live) id is.1 type (or_left (live id) (id == length state.heap) is.0) (contents_at_kept id is.1 is.2) is.3
 
-  pub new_type : (type : FieldType) → own_type contents ≡ Some type
+  pub new_type : (type : FieldType) → own_type contents ≡ type
       → (heap_typing allocated (and_next state live)).type_at (length state.heap) ≡ Some type
   new_type type own =
       typed_by allocated (and_next state live) (length state.heap) contents type (or_right (live (length state.heap)) (length state.heap == length state.heap) (eq-eqb (length state.heap) (length state.heap) refl)) new_contents_at own
@@ -220,7 +218,7 @@ module _ (state : State) (live : ℕ → Bool) (id : ℕ) (old contents : Conten
   pub rewriting_grows : Grows state rewritten live live
   rewriting_grows u type h = go (u == id) refl
     where
-      is : (live u ≡ true) × (c : Contents) × (contents_at state.heap u ≡ Some c) × (own_type c ≡ Some type)
+      is : (live u ≡ true) × (c : Contents) × (contents_at state.heap u ≡ Some c) × (own_type c ≡ type)
       is = typed_is state live u type h
 
       go : (b : Bool) → (u == id) ≡ b → (heap_typing rewritten live).type_at u ≡ Some type

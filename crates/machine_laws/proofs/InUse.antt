@@ -16,7 +16,6 @@ use Rattle.typing_model.specs.VerificationType.{VerificationType, long as long_t
 use Rattle.typing_model.specs.Environment.{Environment}
 use Rattle.machine_model.specs.Value.{Value, long, half, reference, id_in}
 use Rattle.machine_model.specs.Heap.{Contents, instance, array, string, Heap, contents_at, values_of}
-use Rattle.machine_model.specs.ObjectTypes.{element_type}
 use Rattle.machine_model.specs.State.{Frame, Thread, Static, Interned, State}
 use Rattle.machine_model.specs.Reach.{ids_in, frame_roots, thread_roots, argument_roots, roots, children_in}
 use Rattle.machine_model.specs.Monitors.{is_synchronized}
@@ -133,11 +132,7 @@ module _ (heap : HeapTyping) where
   contents_known : (contents : Contents) → contents_conform heap contents ≡ true → list_all (is_known heap) (values_of contents) ≡ true
   contents_known (instance name values) h =
       pairs_known (layout heap.world name) values (and_parts (is_present heap.world name && not (bytes_eq name java_string)) (pointwise (λ (f : MemberReference) value. is_declared heap f.descriptor value) (layout heap.world name) values) h).1
-  contents_known (array descriptor elements) h = go (element_type descriptor) h
-    where
-      go : (o : Option FieldType) → passes (λ type. list_all (holds heap type) elements) o ≡ true → list_all (is_known heap) elements ≡ true
-      go None h = absurd cc
-      go (Some type) h = all_pass (holds heap type) (is_known heap) (held_known type) elements h
+  contents_known (array type elements) h = all_pass (holds heap type) (is_known heap) (held_known type) elements h
   contents_known (string units) h = refl
 
   -- ---- frames

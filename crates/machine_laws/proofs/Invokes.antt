@@ -1,17 +1,16 @@
--- `invokevirtual`, `invokespecial`, `invokestatic` and `invokeinterface` are right, of methods with code.
-use Rattle.std.proofs.Common.{◌≡◌, ℕ, ◌+◌, List, [], ◌∷◌, ◌++◌, Option, Some, None, Bool, true, false, refl, ap, sym, subst, ◌∙◌, if◌then◌else◌, cond, length, slice_get, option_and_then, option_map, map, reverse, take, drop, codes, inl, inr, unwrap_or, length-append, nat_le, suc, arith}
+-- `invokevirtual`, `invokespecial`, `invokestatic` and `invokeinterface` are right.
+use Rattle.std.proofs.Common.{◌≡◌, ℕ, ◌+◌, List, [], ◌∷◌, ◌++◌, Option, Some, None, Bool, true, false, refl, ap, sym, subst, ◌∙◌, if◌then◌else◌, cond, length, slice_get, option_map, map, reverse, take, drop, codes, inl, inr, unwrap_or, length-append, nat_le, suc, arith}
 use Rattle.std.specs.Prelude.{◌⊎◌, is_some, is_none, bytes_eq, ◌||◌}
-use Rattle.std.specs.List.{list_all}
-use Rattle.std.proofs.lemmas.Bool.{and_parts, or_right, le-leb}
+use Rattle.std.proofs.lemmas.Bool.{and_parts, le-leb}
 use Rattle.std.proofs.lemmas.List.{reverse-append, append-nil, append_assoc}
 use Rattle.std.proofs.Math.Seq.{take-append_seam, drop-append_seam}
 use lib.Pointwise.{pointwise}
 use Rattle.jv_model.specs.Partial.{passes, ◌>>=◌}
-use Rattle.jv_model.specs.Descriptors.{FieldType, class_type, array_of, MethodType}
+use Rattle.jv_model.specs.Descriptors.{FieldType, class_type, MethodType}
 use Rattle.jv_model.specs.Operand.{Operand, MemberReference, member_named}
 use Rattle.jv_model.specs.Code.{Body}
 use Rattle.world_model.specs.World.{Class, Method, is_static_method, has_flag, acc_abstract}
-use Rattle.world_model.specs.BootNames.{java_object, is_constructor_name, is_initializer_name}
+use Rattle.world_model.specs.BootNames.{is_constructor_name, is_initializer_name}
 use Rattle.world_model.specs.Supertypes.{is_sub}
 use Rattle.world_model.specs.LookUp.{Found, method_found}
 use Rattle.world_model.specs.Resolution.{class_with_methods}
@@ -23,26 +22,26 @@ use Rattle.typing_model.specs.DescriptorFrame.{as_locals, parameter_locals}
 use Rattle.typing_model.specs.CallTypes.{are_arguments, results, is_made_at, is_own_or_super, initialized, with_each, constructor_called, selected_called, is_special_receiver, special_called, static_called}
 use Rattle.typing_model.specs.Transition.{Test, to, below, popped, changed, operand_at}
 use Rattle.machine_model.specs.Value.{Value, long, half, null, reference}
-use Rattle.machine_model.specs.Heap.{Contents, instance, array, string}
-use Rattle.machine_model.specs.ObjectTypes.{own_type, array_type_of, component_of}
-use Rattle.machine_model.specs.Deed.{Deed, throws, Running, class_of, class_of_contents, finishes}
+use Rattle.machine_model.specs.Deed.{Deed, throws, Running}
 use Rattle.machine_model.specs.CallSteps.{argument_words, new_frame}
 use Rattle.machine_model.specs.InvokeSteps.{runs_code, runs, on_receiver, invoke_virtual, invoke_special, invoke_static, invoke_interface}
-use Rattle.machine_model.specs.TypedValues.{class_made_at, HeapTyping, heap_typing, may_stand, stands_for, is_of_type, are_of_types, holds}
-use Rattle.machine_model.specs.Conforms.{calls, result_types, frame_environment, contents_conform}
+use Rattle.machine_model.specs.TypedValues.{class_made_at, HeapTyping, heap_typing, may_stand, stands_for, is_of_type, are_of_types}
+use Rattle.machine_model.specs.Conforms.{calls, result_types, frame_environment}
 use Rattle.link_laws.proofs.Names.{same_text}
 use Rattle.frame_laws.proofs.Outcome.{some_inj, both, bind_is, when_is, changed_is, popped_is, pushed_is}
 use Rattle.frame_laws.proofs.Verified.{some_and_is}
 use Rattle.frame_laws.proofs.Subsumption.{same_type}
 use Rattle.frame_laws.proofs.Onward.{subsumes}
 use Rattle.machine_model.specs.NativeSteps.{native_step}
-use Rattle.machine_laws.specs.Runnable.{class_of_type, MethodUse, CallUse, Selects, StaticCallUse, VirtualCallUse, InterfaceCallUse, SpecialCallUse}
-use Rattle.machine_laws.specs.Deeds.{IsRight}
-use Rattle.machine_laws.proofs.Heaps.{typed_is}
-use Rattle.machine_laws.proofs.Ready.{Ready, throws_rightly, operands_fit, itself, locals_fit, finishes_rightly}
+use Rattle.machine_laws.specs.Runnable.{class_of_type, NativeUse, native_type, MethodUse, CallUse, Selects, StaticCallUse, VirtualCallUse, InterfaceCallUse, SpecialCallUse}
+use Rattle.machine_laws.proofs.TypedStates.{IsTypedDeed}
+use Rattle.machine_laws.proofs.Ready.{Ready, throws_rightly, operands_fit}
 use Rattle.machine_laws.proofs.Operands.{Object, no_object, object, class_object, take_wanted, one_place, when_test}
-use Rattle.machine_laws.proofs.Calling.{of_frame, found_is, unless_is, made_at, no_results, call_shape, call_goes_on}
-use Rattle.machine_laws.proofs.Arguments.{take_arguments, places_are}
+use Rattle.machine_laws.proofs.Calling.{of_frame, found_is, unless_is, made_at, no_results}
+use Rattle.machine_laws.proofs.Receivers.{receiver_fits, object_class}
+use Rattle.machine_laws.proofs.Arguments.{are_whole, take_arguments, places_are}
+use Rattle.machine_laws.proofs.NativeEnds.{Leaves}
+use Rattle.machine_laws.proofs.Natives.{native_is_right, static_native_is_right}
 use Rattle.machine_laws.proofs.Calls.{call_code_is_right}
 
 -- the element behind a front
@@ -58,33 +57,14 @@ below_weaker p q each tests [] rest h = absurd cc
 below_weaker p q each tests (t ∷ types) rest h =
     let w = when_test (p t) (below tests types) rest h in rw (each t w.0) w.1
 
--- a receiver and arguments are the first locals of a method that isn't static
-receiver_fits : (heap : HeapTyping) (e : Environment) (id : ℕ) (arguments : List Value) → is_static_method e.method ≡ false
-    → stands_for heap id (class_type e.class.name) ≡ true
-    → pointwise (is_of_type heap e) (as_locals (map type_of e.type.parameters)) arguments ≡ true
-    → pointwise (is_of_type heap e) (parameter_locals e) (reference id ∷ arguments) ≡ true
-unfolding is_of_type
-receiver_fits heap e id arguments kind stands fit =
-    ap (λ (b : Bool). pointwise (is_of_type heap e) (as_locals ((if b then [] else (if is_constructor e then this else class e.class.name) ∷ []) ++ map type_of e.type.parameters)) (reference id ∷ arguments)) kind
-    ∙ go (is_constructor e)
-  where
-    go : (b : Bool) → pointwise (is_of_type heap e) (as_locals ((if b then this else class e.class.name) ∷ map type_of e.type.parameters)) (reference id ∷ arguments) ≡ true
-    go true = both (stands_for heap id (class_type e.class.name)) (pointwise (is_of_type heap e) (as_locals (map type_of e.type.parameters)) arguments) stands fit
-    go false = both (stands_for heap id (class_type e.class.name)) (pointwise (is_of_type heap e) (as_locals (map type_of e.type.parameters)) arguments) stands fit
-
 module _ (r : Running) (live : ℕ → Bool) (ready : Ready r live) where
   abbrev heap : HeapTyping
   heap = heap_typing r.state live
 
-  is_abstract : (b : Bool) (deed : Deed) → (b ≡ false → IsRight r.state.world deed)
-      → IsRight r.state.world (if b then throws (codes "java/lang/AbstractMethodError") false else deed)
+  is_abstract : (b : Bool) (deed : Deed) → (b ≡ false → IsTypedDeed r.state.world deed)
+      → IsTypedDeed r.state.world (if b then throws (codes "java/lang/AbstractMethodError") false else deed)
   is_abstract true deed right = throws_rightly r live ready (codes "java/lang/AbstractMethodError") false refl
   is_abstract false deed right = right refl
-
-  -- what a call leaves below, and that it calls a method of that descriptor
-  record Leaves (m : MemberReference) (others : List Value) : Type 0 where
-    is_call : calls m.descriptor ready.at.placed.instruction ≡ true
-    rest : are_of_types heap ready.e (drop (length (result_types m.descriptor)) ready.at.applies.after.stack) others ≡ true
 
   -- the environment of a method that is used has the type of the reference
   same_parameters : (m : MemberReference) (call : CallUse m) (found : Found Method) (e : Environment)
@@ -94,29 +74,15 @@ module _ (r : Running) (live : ℕ → Bool) (ready : Ready r live) where
       let of = of_frame r.state.world (new_frame (method_found found) None []) e environment in
       some_inj (sym of.is_type ∙ (ap (λ (x : Method). method_type_of x.descriptor) same_method ∙ (ap method_type_of same_descriptor ∙ call.is_type)))
 
-  -- a call that does nothing goes on behind its arguments
-  nothing_done : (m : MemberReference) (others : List Value) → Leaves m others → result_types m.descriptor ≡ []
-      → nat_le (length others) (length r.frame.stack) ≡ true → IsRight r.state.world (finishes 0 true r r.state others)
-  nothing_done m others left none fewer =
-      let shape = call_shape heap ready.e ready.typed.right ready.before ready.at.applies.after ready.at.placed.pc m.descriptor ready.at.placed.instruction left.is_call ready.at.applies.is_after in
-      let on = call_goes_on heap ready.e ready.typed.right ready.before ready.at.applies.after m.descriptor ready.at.placed.instruction left.is_call in
-      let below : are_of_types heap ready.e ready.at.applies.after.stack others ≡ true =
-      subst (λ (ts : List VerificationType). are_of_types heap ready.e (drop (length ts) ready.at.applies.after.stack) others ≡ true) none left.rest in
-      finishes_rightly r live ready r.state live (itself r.state live ready.conforms) 0 true others on
-      (both (pointwise (is_of_type heap ready.e) ready.at.applies.after.locals r.frame.locals) (are_of_types heap ready.e ready.at.applies.after.stack others)
-      (shape.locals r.frame.locals (locals_fit r live ready)) below)
-      (or_right (nat_le (length others) r.body.max_stack) (nat_le (length others) (length r.frame.stack)) fewer)
-
   -- a method of an object runs rightly, on a receiver and arguments
   instance_runs : (m : MemberReference) (call : CallUse m) (front : List Value) (id : ℕ) (own : FieldType) (others : List Value)
       → r.frame.stack ≡ front ++ (reference id ∷ others) → heap.type_at id ≡ Some own
       → ((callee : Environment) → pointwise (is_of_type heap callee) (as_locals (map type_of call.type.parameters)) (reverse front) ≡ true)
-      → Leaves m others → (o : Option (Found Method)) → Selects r.state.world m own o
-      → IsRight r.state.world (runs r (length front + 1) (Some id) o)
-  unfolding native_step
-  instance_runs m call front id own others is at fit left None selects =
+      → are_whole (reverse front) ≡ true → Leaves r live ready m others → (o : Option (Found Method)) → Selects r.state.world m own o
+      → IsTypedDeed r.state.world (runs r (length front + 1) (Some id) o)
+  instance_runs m call front id own others is at fit whole left None selects =
       throws_rightly r live ready (codes "java/lang/AbstractMethodError") false refl
-  instance_runs m call front id own others is at fit left (Some found) selects =
+  instance_runs m call front id own others is at fit whole left (Some found) selects =
       is_abstract (has_flag acc_abstract found.member.flags) _ (by_code found.member.code refl)
     where
       longer : r.frame.stack ≡ (front ++ reference id ∷ []) ++ others
@@ -131,11 +97,22 @@ module _ (r : Running) (live : ℕ → Bool) (ready : Ready r live) where
       dropped : drop (length front + 1) r.frame.stack ≡ others
       dropped = ap (λ (n : ℕ). drop n r.frame.stack) (sym places) ∙ (ap (drop (length (front ++ reference id ∷ []))) longer ∙ drop-append_seam (front ++ reference id ∷ []) others)
 
+      by_native : (used : NativeUse r.state.world m false found)
+          → IsTypedDeed r.state.world (native_step r used.native (reverse (take (length front + 1) r.frame.stack)) (drop (length front + 1) r.frame.stack))
+      by_native used =
+          let same : call.type ≡ native_type used.native = some_inj (sym call.is_type ∙ used.is_type) in
+          let fewer : nat_le (length others) (length r.frame.stack) ≡ true =
+          le-leb _ _ (let more : length r.frame.stack ≡ length front + suc (length others) = ap length is ∙ length-append front (reference id ∷ others) in omega arith) in
+          subst (λ (vs : List Value). IsTypedDeed r.state.world (native_step r used.native vs (drop (length front + 1) r.frame.stack))) (sym (ap reverse taken ∙ reverse-append front (reference id ∷ [])))
+          (subst (λ (vs : List Value). IsTypedDeed r.state.world (native_step r used.native (reference id ∷ reverse front) vs)) (sym dropped)
+          (native_is_right r live ready m others left fewer found.class used.native used.kind used.asks used.is_type id (rw at selects.1) (reverse front)
+          (subst (λ (t : MethodType). pointwise (is_of_type heap ready.e) (as_locals (map type_of t.parameters)) (reverse front) ≡ true) same (fit ready.e)) whole))
+
       by_code : (code : Option (Body Operand)) → found.member.code ≡ code → has_flag acc_abstract found.member.flags ≡ false
-          → IsRight r.state.world (runs_code r found (length front + 1) (Some id) code)
-      by_code None none concrete = elim (selects.0.no_native none) [
+          → IsTypedDeed r.state.world (runs_code r found (length front + 1) (Some id) code)
+      by_code None none concrete = elim (selects.0.without_code none) [
         | inl abstract ↦ absurd cc
-        | inr native ↦ rw (native.0, dropped) (nothing_done m others left native.1 (le-leb _ _ (let more : length r.frame.stack ≡ length front + suc (length others) = ap length is ∙ length-append front (reference id ∷ others) in omega arith)))
+        | inr native ↦ rw native.is_native (by_native native)
       ]
       by_code (Some body) some concrete =
           let use_of = selects.0.environment body some in
@@ -167,15 +144,26 @@ module _ (r : Running) (live : ℕ → Bool) (ready : Ready r live) where
   static_runs : (m : MemberReference) (call : CallUse m) (found : Found Method) → MethodUse r.state.world m true found
       → (front others : List Value) → r.frame.stack ≡ front ++ others
       → ((callee : Environment) → pointwise (is_of_type heap callee) (as_locals (map type_of call.type.parameters)) (reverse front) ≡ true)
-      → Leaves m others → IsRight r.state.world (runs r (length front) None (Some found))
+      → Leaves r live ready m others → IsTypedDeed r.state.world (runs r (length front) None (Some found))
   static_runs m call found used front others is fit left =
       is_abstract (has_flag acc_abstract found.member.flags) _ (by_code found.member.code refl)
     where
+      by_native : (native : NativeUse r.state.world m true found)
+          → IsTypedDeed r.state.world (native_step r native.native (reverse (take (length front) r.frame.stack)) (drop (length front) r.frame.stack))
+      by_native native =
+          let same : call.type ≡ native_type native.native = some_inj (sym call.is_type ∙ native.is_type) in
+          let fewer : nat_le (length others) (length r.frame.stack) ≡ true =
+          le-leb _ _ (let more : length r.frame.stack ≡ length front + length others = ap length is ∙ length-append front others in omega arith) in
+          subst (λ (vs : List Value). IsTypedDeed r.state.world (native_step r native.native (reverse vs) (drop (length front) r.frame.stack))) (sym (ap (take (length front)) is ∙ take-append_seam front others))
+          (subst (λ (vs : List Value). IsTypedDeed r.state.world (native_step r native.native (reverse front) vs)) (sym (ap (drop (length front)) is ∙ drop-append_seam front others))
+          (static_native_is_right r live ready m others left fewer native.native native.kind native.is_type (reverse front)
+          (subst (λ (t : MethodType). pointwise (is_of_type heap ready.e) (as_locals (map type_of t.parameters)) (reverse front) ≡ true) same (fit ready.e))))
+
       by_code : (code : Option (Body Operand)) → found.member.code ≡ code → has_flag acc_abstract found.member.flags ≡ false
-          → IsRight r.state.world (runs_code r found (length front) None code)
-      by_code None none concrete = elim (used.no_native none) [
+          → IsTypedDeed r.state.world (runs_code r found (length front) None code)
+      by_code None none concrete = elim (used.without_code none) [
         | inl abstract ↦ absurd cc
-        | inr native ↦ absurd (let static = native.2 in cc)
+        | inr native ↦ rw native.is_native (by_native native)
       ]
       by_code (Some body) some concrete =
           let use_of = used.environment body some in
@@ -206,7 +194,7 @@ module _ (r : Running) (live : ℕ → Bool) (ready : Ready r live) where
   -- `invokestatic` is right
   pub static_is_right : (m : MemberReference) (used : StaticCallUse r.state.world m)
       → calls m.descriptor ready.at.placed.instruction ≡ true
-      → static_called ready.e (member_named m) ready.before ≡ Some ready.at.applies.after → IsRight r.state.world (invoke_static r m)
+      → static_called ready.e (member_named m) ready.before ≡ Some ready.at.applies.after → IsTypedDeed r.state.world (invoke_static r m)
   unfolding below
   static_is_right m used is_call h =
       let type = bind_is (λ (type : MethodType). if is_constructor_name m.name then None else changed ready.e (are_arguments ready.e type) (results type) ready.before) (method_type_of m.descriptor) ready.at.applies.after h in
@@ -215,7 +203,7 @@ module _ (r : Running) (live : ℕ → Bool) (ready : Ready r live) where
       go (subst (λ (t : MethodType). changed ready.e (are_arguments ready.e t) (results t) ready.before ≡ Some ready.at.applies.after) same w.1)
     where
       go : changed ready.e (are_arguments ready.e used.call.type) (results used.call.type) ready.before ≡ Some ready.at.applies.after
-          → IsRight r.state.world (invoke_static r m)
+          → IsTypedDeed r.state.world (invoke_static r m)
       go h =
           let c = changed_is ready.e (are_arguments ready.e used.call.type) (results used.call.type) ready.before ready.at.applies.after h in
           let p = pushed_is ready.e (results used.call.type) (record ready.before { stack = c.0 }) ready.at.applies.after c.2 in
@@ -230,31 +218,12 @@ module _ (r : Running) (live : ℕ → Bool) (ready : Ready r live) where
 
   -- ---- objects
 
-  -- the class whose methods an object in use has is that of its type
-  object_class : (id : ℕ) (own : FieldType) → heap.type_at id ≡ Some own → class_of r.state id ≡ Some (class_of_type own)
-  object_class id own at =
-      let is = typed_is r.state live id own at in
-      ap (option_and_then (λ contents. Some (class_of_contents contents))) is.2
-      ∙ ap Some (of is.1 is.3 (ready.conforms.shared.objects id is.1 is.0 is.2))
-    where
-      of : (contents : Contents) → own_type contents ≡ Some own → contents_conform heap contents ≡ true
-          → class_of_contents contents ≡ class_of_type own
-      of (instance name values) same conforms = ap class_of_type (some_inj same)
-      of (string units) same conforms = ap class_of_type (some_inj same)
-      of (array descriptor elements) same conforms = go (array_type_of descriptor) refl same
-        where
-          go : (o : Option FieldType) → array_type_of descriptor ≡ o → o ≡ Some own → java_object ≡ class_of_type own
-          go None is h = absurd cc
-          go (Some (array_of c)) is h = ap class_of_type (some_inj h)
-          go (Some t) is h =
-              absurd (let none : contents_conform heap (array descriptor elements) ≡ false = ap (λ (o : Option FieldType). passes (λ type. list_all (holds heap type) elements) (option_and_then component_of o)) is in let yes = conforms in cc)
-
   -- null or a receiver lies below the arguments, and what follows it is right
   on_receiver_right : (m : MemberReference) (call : CallUse m) (front : List Value) (value : Value) (others : List Value)
       (owner : List ℕ) (next : ℕ → Deed) → r.frame.stack ≡ front ++ (value ∷ others)
       → Object heap ready.e (class_type owner) value
-      → ((id : ℕ) → value ≡ reference id → stands_for heap id (class_type owner) ≡ true → IsRight r.state.world (next id))
-      → IsRight r.state.world (on_receiver r (length front) next)
+      → ((id : ℕ) → value ≡ reference id → stands_for heap id (class_type owner) ≡ true → IsTypedDeed r.state.world (next id))
+      → IsTypedDeed r.state.world (on_receiver r (length front) next)
   on_receiver_right m call front _ others owner next is no_object each =
       rw (ap (λ (vs : List Value). slice_get vs (length front)) is ∙ get_seam front null others)
       (throws_rightly r live ready (codes "java/lang/NullPointerException") false refl)
@@ -268,6 +237,7 @@ module _ (r : Running) (live : ℕ → Bool) (ready : Ready r live) where
     others : List Value
     is : r.frame.stack ≡ front ++ (value ∷ others)
     fit : (callee : Environment) → pointwise (is_of_type heap callee) (as_locals (map type_of call.type.parameters)) (reverse front) ≡ true
+    whole : are_whole (reverse front) ≡ true
     receiver : Object heap ready.e (class_type owner) value
     rest : are_of_types heap ready.e (drop (length (result_types m.descriptor)) ready.at.applies.after.stack) others ≡ true
 
@@ -287,6 +257,7 @@ module _ (r : Running) (live : ℕ → Bool) (ready : Ready r live) where
         others = x.others;
         is = a.is ∙ ap (λ (vs : List Value). a.front ++ vs) (x.is ∙ one_place heap ready.e (class owner) x.value x.others refl x.of);
         fit = a.fit;
+        whole = a.whole;
         receiver = class_object heap ready.e owner x.value x.of;
         rest = below_result m call c.0 x.others (ap (λ (f : TypeFrame). f.stack) (sym p.1))
             (subst (λ (ts : List VerificationType). are_of_types heap ready.e ts x.others ≡ true) (some_inj x.are_below) x.fit);
@@ -304,31 +275,31 @@ module _ (r : Running) (live : ℕ → Bool) (ready : Ready r live) where
 
   pub virtual_is_right : (m : MemberReference) (used : VirtualCallUse r.state.world m)
       → calls m.descriptor ready.at.placed.instruction ≡ true
-      → selected_called ready.e (member_named m) ready.before ≡ Some ready.at.applies.after → IsRight r.state.world (invoke_virtual r m)
+      → selected_called ready.e (member_named m) ready.before ≡ Some ready.at.applies.after → IsTypedDeed r.state.world (invoke_virtual r m)
   virtual_is_right m used is_call h =
       let x = selected_received m used.call h in
       rw (used.resolved, words_are m used.call x.front x.fit)
       (on_receiver_right m used.call x.front x.value x.others m.class _ x.is x.receiver (λ id same stands.
       let own = some_and_is (λ own. may_stand r.state.world own (class_type m.class)) (heap.type_at id) stands in
-      rw (object_class id own.0 own.1)
-      (instance_runs m used.call x.front id own.0 x.others (x.is ∙ ap (λ (v : Value). x.front ++ (v ∷ x.others)) same) own.1 x.fit (record { is_call = is_call; rest = x.rest })
+      rw (object_class r live ready id own.0 own.1)
+      (instance_runs m used.call x.front id own.0 x.others (x.is ∙ ap (λ (v : Value). x.front ++ (v ∷ x.others)) same) own.1 x.fit x.whole (record { is_call = is_call; rest = x.rest })
       (selected r.state.world used.found m (class_of_type own.0)) (used.selects own.0 own.2))))
 
   pub interface_is_right : (m : MemberReference) (used : InterfaceCallUse r.state.world m)
       → calls m.descriptor ready.at.placed.instruction ≡ true
-      → selected_called ready.e (member_named m) ready.before ≡ Some ready.at.applies.after → IsRight r.state.world (invoke_interface r m)
+      → selected_called ready.e (member_named m) ready.before ≡ Some ready.at.applies.after → IsTypedDeed r.state.world (invoke_interface r m)
   interface_is_right m used is_call h =
       let x = selected_received m used.call h in
       rw (used.resolved, words_are m used.call x.front x.fit)
       (on_receiver_right m used.call x.front x.value x.others m.class _ x.is x.receiver (λ id same stands.
       let own = some_and_is (λ own. may_stand r.state.world own (class_type m.class)) (heap.type_at id) stands in
-      rw (object_class id own.0 own.1)
+      rw (object_class r live ready id own.0 own.1)
       (either (is_sub r.state.world (class_of_type own.0) (class_with_methods m.class)) _
-      (λ below. instance_runs m used.call x.front id own.0 x.others (x.is ∙ ap (λ (v : Value). x.front ++ (v ∷ x.others)) same) own.1 x.fit (record { is_call = is_call; rest = x.rest })
+      (λ below. instance_runs m used.call x.front id own.0 x.others (x.is ∙ ap (λ (v : Value). x.front ++ (v ∷ x.others)) same) own.1 x.fit x.whole (record { is_call = is_call; rest = x.rest })
       (selected r.state.world used.found m (class_of_type own.0)) (used.selects own.0 below)))))
     where
-      either : (b : Bool) (deed : Deed) → (b ≡ true → IsRight r.state.world deed)
-          → IsRight r.state.world (if b then deed else throws (codes "java/lang/IncompatibleClassChangeError") false)
+      either : (b : Bool) (deed : Deed) → (b ≡ true → IsTypedDeed r.state.world deed)
+          → IsTypedDeed r.state.world (if b then deed else throws (codes "java/lang/IncompatibleClassChangeError") false)
       either true deed right = right refl
       either false deed right = throws_rightly r live ready (codes "java/lang/IncompatibleClassChangeError") false refl
 
@@ -350,13 +321,13 @@ module _ (r : Running) (live : ℕ → Bool) (ready : Ready r live) where
   plain_special : (m : MemberReference) (used : SpecialCallUse r.state.world ready.e m)
       → calls m.descriptor ready.at.placed.instruction ≡ true
       → changed ready.e (are_arguments ready.e used.call.type ++ is_special_receiver ready.e m ∷ []) (results used.call.type) ready.before ≡ Some ready.at.applies.after
-      → IsRight r.state.world (invoke_special r m)
+      → IsTypedDeed r.state.world (invoke_special r m)
   plain_special m used is_call h =
       let x = receive m used.call m.class (is_special_receiver ready.e m) (λ t h. (and_parts (to ready.e (class ready.e.class.name) t) (to ready.e (class m.class) t) h).1) h in
       rw (used.resolved, words_are m used.call x.front x.fit)
       (on_receiver_right m used.call x.front x.value x.others m.class _ x.is x.receiver (λ id same stands.
       let own = some_and_is (λ own. may_stand r.state.world own (class_type m.class)) (heap.type_at id) stands in
-      instance_runs m used.call x.front id own.0 x.others (x.is ∙ ap (λ (v : Value). x.front ++ (v ∷ x.others)) same) own.1 x.fit (record { is_call = is_call; rest = x.rest })
+      instance_runs m used.call x.front id own.0 x.others (x.is ∙ ap (λ (v : Value). x.front ++ (v ∷ x.others)) same) own.1 x.fit x.whole (record { is_call = is_call; rest = x.rest })
       (specially_selected r.state.world r.frame.method.class used.found m) (special_selects m used own.0 (inl own.2))))
 
   -- ---- constructors
@@ -460,7 +431,7 @@ module _ (r : Running) (live : ℕ → Bool) (ready : Ready r live) where
   constructor_special : (m : MemberReference) (used : SpecialCallUse r.state.world ready.e m)
       → calls m.descriptor ready.at.placed.instruction ≡ true
       → constructor_called ready.e m used.call.type ready.before ≡ Some ready.at.applies.after
-      → IsRight r.state.world (invoke_special r m)
+      → IsTypedDeed r.state.world (invoke_special r m)
   constructor_special m used is_call h =
       let type = used.call.type in
       let receiver = bind_is (λ receiver. initialized ready.e m.class receiver >>= λ object. popped (are_arguments ready.e type ++ is_same receiver ∷ []) ready.before >>= λ rest. if is_none type.result then Some (with_each receiver object rest) else None) (operand_at (length type.parameters) ready.before) ready.at.applies.after h in
@@ -480,29 +451,29 @@ module _ (r : Running) (live : ℕ → Bool) (ready : Ready r live) where
       below_result m used.call ready.at.applies.after.stack x.1 (ap (λ (types : List VerificationType). types ++ ready.at.applies.after.stack) (sym (no_results type last.0)))
       (subst (λ (ts : List VerificationType). are_of_types heap ready.e ts x.1 ≡ true) (sym stack) (each_operand receiver.0 c.name c.short c.goes p.0 x.1 x.4)) in
       rw (used.resolved, words_are m used.call a.front a.fit, ap (λ (vs : List Value). slice_get vs (length a.front)) is ∙ get_seam a.front (reference o.0) x.1)
-      (of a.front o.0 x.1 is a.fit (record { is_call = is_call; rest = left }) o.2)
+      (of a.front o.0 x.1 is a.fit a.whole (record { is_call = is_call; rest = left }) o.2)
     where
       of : (front : List Value) (id : ℕ) (others : List Value) → r.frame.stack ≡ front ++ (reference id ∷ others)
           → ((callee : Environment) → pointwise (is_of_type heap callee) (as_locals (map type_of used.call.type.parameters)) (reverse front) ≡ true)
-          → Leaves m others
+          → are_whole (reverse front) ≡ true → Leaves r live ready m others
           → (stands_for heap id (class_type m.class) ≡ true) ⊎ ((is_own_or_super ready.e m.class ≡ true) × (stands_for heap id (class_type ready.e.class.name) ≡ true))
-          → IsRight r.state.world (runs r (length front + 1) (Some id) (specially_selected r.state.world r.frame.method.class used.found m))
-      of front id others is fit left (inl stands) =
+          → IsTypedDeed r.state.world (runs r (length front + 1) (Some id) (specially_selected r.state.world r.frame.method.class used.found m))
+      of front id others is fit whole left (inl stands) =
           let own = some_and_is (λ own. may_stand r.state.world own (class_type m.class)) (heap.type_at id) stands in
-          instance_runs m used.call front id own.0 others is own.1 fit left (specially_selected r.state.world r.frame.method.class used.found m) (special_selects m used own.0 (inl own.2))
-      of front id others is fit left (inr (super, stands)) =
+          instance_runs m used.call front id own.0 others is own.1 fit whole left (specially_selected r.state.world r.frame.method.class used.found m) (special_selects m used own.0 (inl own.2))
+      of front id others is fit whole left (inr (super, stands)) =
           let own = some_and_is (λ own. may_stand r.state.world own (class_type ready.e.class.name)) (heap.type_at id) stands in
-          instance_runs m used.call front id own.0 others is own.1 fit left (specially_selected r.state.world r.frame.method.class used.found m) (special_selects m used own.0 (inr (super, own.2)))
+          instance_runs m used.call front id own.0 others is own.1 fit whole left (specially_selected r.state.world r.frame.method.class used.found m) (special_selects m used own.0 (inr (super, own.2)))
 
   -- `invokespecial` is right
   pub special_is_right : (m : MemberReference) (used : SpecialCallUse r.state.world ready.e m)
       → calls m.descriptor ready.at.placed.instruction ≡ true
-      → special_called ready.e (member_named m) ready.before ≡ Some ready.at.applies.after → IsRight r.state.world (invoke_special r m)
+      → special_called ready.e (member_named m) ready.before ≡ Some ready.at.applies.after → IsTypedDeed r.state.world (invoke_special r m)
   special_is_right m used is_call h =
       let type = bind_is (λ (type : MethodType). if is_constructor_name m.name then constructor_called ready.e m type ready.before else if is_initializer_name m.name then None else changed ready.e (are_arguments ready.e type ++ is_special_receiver ready.e m ∷ []) (results type) ready.before) (method_type_of m.descriptor) ready.at.applies.after h in
       go (is_constructor_name m.name) (subst (λ (t : MethodType). cond (is_constructor_name m.name) (constructor_called ready.e m t ready.before) (if is_initializer_name m.name then None else changed ready.e (are_arguments ready.e t ++ is_special_receiver ready.e m ∷ []) (results t) ready.before) ≡ Some ready.at.applies.after) (of_type m used.call type.0 type.1) type.2)
     where
       go : (b : Bool) → cond b (constructor_called ready.e m used.call.type ready.before) (if is_initializer_name m.name then None else changed ready.e (are_arguments ready.e used.call.type ++ is_special_receiver ready.e m ∷ []) (results used.call.type) ready.before) ≡ Some ready.at.applies.after
-          → IsRight r.state.world (invoke_special r m)
+          → IsTypedDeed r.state.world (invoke_special r m)
       go true h = constructor_special m used is_call h
       go false h = plain_special m used is_call (unless_is (is_initializer_name m.name) (changed ready.e (are_arguments ready.e used.call.type ++ is_special_receiver ready.e m ∷ []) (results used.call.type) ready.before) ready.at.applies.after h).1

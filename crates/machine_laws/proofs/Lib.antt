@@ -1,3 +1,4 @@
+pub mod TypedStates
 pub mod Heaps
 pub mod Ready
 pub mod Operands
@@ -14,6 +15,10 @@ pub mod Returns
 pub mod Catching
 pub mod Arguments
 pub mod Calls
+pub mod NativeEnds
+pub mod Receivers
+pub mod Threads
+pub mod Natives
 pub mod Invokes
 pub mod Deeds
 pub mod Steps

@@ -33,7 +33,7 @@ use Rattle.frame_laws.proofs.Numbers.{int_lands}
 use Rattle.frame_laws.proofs.Onward.{subsumes}
 use Rattle.link_laws.proofs.Names.{same_text, text_same}
 use Rattle.machine_laws.specs.Runnable.{is_operand}
-use Rattle.machine_laws.specs.Deeds.{IsRight}
+use Rattle.machine_laws.proofs.TypedStates.{IsTypedDeed}
 use Rattle.machine_laws.proofs.Heaps.{typed_is, and_next, allocated, new_type, new_contents_at}
 use Rattle.machine_laws.proofs.Ready.{Ready, Follows, itself, allocating, throws_rightly, operands_fit, operands_then, locals_then, finishes_rightly, pushes_rightly}
 use Rattle.machine_laws.proofs.Operands.{lands, Object, no_object, object, class_object, take_wanted, one_place}
@@ -56,12 +56,12 @@ is_named name = go (field_type_of name)
     go other = refl
 
 -- the contents of a new object of a class have the class's type
-pub made_type : (world : World) (name : List ℕ) → own_type (new_contents world name) ≡ Some (class_type name)
+pub made_type : (world : World) (name : List ℕ) → own_type (new_contents world name) ≡ class_type name
 made_type world name = go (bytes_eq name java_string) refl
   where
     go : (b : Bool) → bytes_eq name java_string ≡ b
-        → own_type (if b then string [] else instance name (zeros (layout world name))) ≡ Some (class_type name)
-    go true is = ap (λ (n : List ℕ). Some (class_type n)) (sym (same_text name java_string is))
+        → own_type (if b then string [] else instance name (zeros (layout world name))) ≡ class_type name
+    go true is = ap (λ (n : List ℕ). class_type n) (sym (same_text name java_string is))
     go false is = refl
 
 -- and they conform, where the class is there and its fields have descriptors
@@ -116,34 +116,34 @@ module _ (r : Running) (live : ℕ → Bool) (ready : Ready r live) (on : flow_g
           let is = typed_is r.state live id own at in (
             is_instance_of r.state.world (named_type name) is.1,
             ap (option_and_then (λ contents. Some (is_instance_of r.state.world (named_type name) contents))) is.2,
-            λ h. rw at (subtype_stands r.state.world own (named_type name) (sym (ap (passes (λ o. is_subtype r.state.world o (named_type name))) is.3) ∙ h)),
+            λ h. rw at (subtype_stands r.state.world own (named_type name) (sym (ap (λ (o : FieldType). is_subtype r.state.world o (named_type name)) is.3) ∙ h)),
           )
 
   -- null, or an object that stands for Object, lies on top
   object_on : (types rest : List VerificationType) → changed ready.e (to ready.e (class java_object) ∷ []) types ready.before ≡ Some ready.at.applies.after
       → (deed : List Value → Deed)
       → ((others : List Value) (rest : List VerificationType) → pushed ready.e types (record ready.before { stack = rest }) ≡ Some ready.at.applies.after
-      → are_of_types heap ready.e rest others ≡ true → IsRight r.state.world (deed (null ∷ others)))
+      → are_of_types heap ready.e rest others ≡ true → IsTypedDeed r.state.world (deed (null ∷ others)))
       → ((id : ℕ) (others : List Value) (rest : List VerificationType) → pushed ready.e types (record ready.before { stack = rest }) ≡ Some ready.at.applies.after
-      → are_of_types heap ready.e rest others ≡ true → is_in_use heap id ≡ true → IsRight r.state.world (deed (reference id ∷ others)))
-      → IsRight r.state.world (deed r.frame.stack)
+      → are_of_types heap ready.e rest others ≡ true → is_in_use heap id ≡ true → IsTypedDeed r.state.world (deed (reference id ∷ others)))
+      → IsTypedDeed r.state.world (deed r.frame.stack)
   unfolding below
   object_on types rest h deed of_null of_object =
       let c = changed_is ready.e (to ready.e (class java_object) ∷ []) types ready.before ready.at.applies.after h in
       let x = take_wanted heap ready.e (subsumes heap ready.runnable.verified ready.e ready.typed) (class java_object) [] ready.before.stack c.0 r.frame.stack refl c.1 (operands_fit r live ready) in
-      subst (λ (vs : List Value). IsRight r.state.world (deed vs)) (sym (x.is ∙ one_place heap ready.e (class java_object) x.value x.others refl x.of))
+      subst (λ (vs : List Value). IsTypedDeed r.state.world (deed vs)) (sym (x.is ∙ one_place heap ready.e (class java_object) x.value x.others refl x.of))
       (of x.value x.others c.0 c.2 (subst (λ (ts : List VerificationType). are_of_types heap ready.e ts x.others ≡ true) (some_inj x.are_below) x.fit) (class_object heap ready.e java_object x.value x.of))
     where
       of : (value : Value) (others : List Value) (rest : List VerificationType) → pushed ready.e types (record ready.before { stack = rest }) ≡ Some ready.at.applies.after
           → are_of_types heap ready.e rest others ≡ true → Object heap ready.e (class_type java_object) value
-          → IsRight r.state.world (deed (value ∷ others))
+          → IsTypedDeed r.state.world (deed (value ∷ others))
       of _ others rest h f no_object = of_null others rest h f
       of _ others rest h f (object id stands) = of_object id others rest h f (stands_in_use heap id (class_type java_object) stands)
 
   -- `instanceof` is right
   pub instance_of_is_right : (name : List ℕ)
       → changed ready.e (to ready.e (class java_object) ∷ []) (int_type ∷ []) ready.before ≡ Some ready.at.applies.after
-      → IsRight r.state.world (instance_of r name r.frame.stack)
+      → IsTypedDeed r.state.world (instance_of r name r.frame.stack)
   unfolding below
   instance_of_is_right name h = object_on (int_type ∷ []) [] h (instance_of r name)
       (λ others rest h f. gives_rightly r live ready on int_type rest rest (int (pos 0)) others h refl f (int_lands heap ready.e (pos 0)))
@@ -174,7 +174,7 @@ module _ (r : Running) (live : ℕ → Bool) (ready : Ready r live) (on : flow_g
   -- `checkcast` is right
   pub check_cast_is_right : (name : List ℕ)
       → changed ready.e (to ready.e (class java_object) ∷ []) (type_of (named_type name) ∷ []) ready.before ≡ Some ready.at.applies.after
-      → IsRight r.state.world (check_cast r name r.frame.stack)
+      → IsTypedDeed r.state.world (check_cast r name r.frame.stack)
   unfolding below
   check_cast_is_right name h = object_on (type_of (named_type name) ∷ []) [] h (check_cast r name)
       (λ others rest h f. gives_rightly r live ready on (type_of (named_type name)) rest rest null others h refl f
@@ -186,7 +186,7 @@ module _ (r : Running) (live : ℕ → Bool) (ready : Ready r live) (on : flow_g
       either : (id : ℕ) (others : List Value) (rest : List VerificationType)
           → pushed ready.e (type_of (named_type name) ∷ []) (record ready.before { stack = rest }) ≡ Some ready.at.applies.after
           → are_of_types heap ready.e rest others ≡ true → (b : Bool) → (b ≡ true → stands_for heap id (named_type name) ≡ true)
-          → IsRight r.state.world (if b then goes_on r r.state (reference id ∷ others) else throws (codes "java/lang/ClassCastException") false)
+          → IsTypedDeed r.state.world (if b then goes_on r r.state (reference id ∷ others) else throws (codes "java/lang/ClassCastException") false)
       either id others rest h f false stands = throws_rightly r live ready (codes "java/lang/ClassCastException") false refl
       either id others rest h f true stands =
           gives_rightly r live ready on (type_of (named_type name)) rest rest (reference id) others h refl f
@@ -215,7 +215,7 @@ module _ (r : Running) (live : ℕ → Bool) (ready : Ready r live) (on : flow_g
   pub new_is_right : (name : List ℕ) → is_present r.state.world name ≡ true
       → class_made_at ready.e ready.at.placed.pc ≡ Some name
       → pushed ready.e (new_at ready.at.placed.pc ∷ []) (record ready.before { locals = forgotten ready.at.placed.pc ready.before.locals }) ≡ Some ready.at.applies.after
-      → IsRight r.state.world (new_object r name)
+      → IsTypedDeed r.state.world (new_object r name)
   unfolding is_of_type are_of_types
   new_is_right name present made h =
       let contents : Contents = new_contents r.state.world name in
@@ -248,7 +248,7 @@ module _ (r : Running) (live : ℕ → Bool) (ready : Ready r live) (on : flow_g
       let p = and_parts (is_in_use heap row.id) (passes (is_string row.units) (contents_at r.state.heap row.id)) h in
       go (heap.type_at row.id) refl p.0 p.1
     where
-      string_type : (c : Contents) → is_string row.units c ≡ true → own_type c ≡ Some (class_type java_string)
+      string_type : (c : Contents) → is_string row.units c ≡ true → own_type c ≡ class_type java_string
       string_type (string units) h = refl
       string_type c h = absurd cc
 
@@ -257,8 +257,8 @@ module _ (r : Running) (live : ℕ → Bool) (ready : Ready r live) (on : flow_g
       go None at used h = absurd cc
       go (Some own) at used h =
           let is = typed_is r.state live row.id own at in
-          let same : Some own ≡ Some (class_type java_string) = sym is.3 ∙ string_type is.1 (sym (ap (passes (is_string row.units)) is.2) ∙ h) in
-          rw (at ∙ same) (stands_itself r.state.world (class_type java_string))
+          let same : own ≡ class_type java_string = sym is.3 ∙ string_type is.1 (sym (ap (passes (is_string row.units)) is.2) ∙ h) in
+          rw (at ∙ ap Some same) (stands_itself r.state.world (class_type java_string))
 
   -- with a literal's string, which is new
   interning : (units : List ℕ) → Follows r.state live (with_interned units r.state) (and_next r.state live)
@@ -292,11 +292,11 @@ module _ (r : Running) (live : ℕ → Bool) (ready : Ready r live) (on : flow_g
 
   -- `ldc` of a string is right
   pub load_string_is_right : (units : List ℕ) → pushed ready.e (class java_string ∷ []) ready.before ≡ Some ready.at.applies.after
-      → IsRight r.state.world (load_string r units)
+      → IsTypedDeed r.state.world (load_string r units)
   unfolding is_of_type are_of_types
   load_string_is_right units h = go (interned_string units r.state) refl
     where
-      go : (o : Option Interned) → interned_string units r.state ≡ o → IsRight r.state.world (pushes_interned r units o)
+      go : (o : Option Interned) → interned_string units r.state ≡ o → IsTypedDeed r.state.world (pushes_interned r units o)
       go (Some row) is =
           let row_is = found_passes (λ (i : Interned). bytes_eq i.units units) (literal_conforms r.state heap) r.state.interned row is ready.conforms.shared.literals in
           pushes_rightly r live ready r.state live (itself r.state live ready.conforms) 0 false (class java_string ∷ []) ready.before.stack (reference row.id ∷ r.frame.stack) on h

@@ -1,37 +1,31 @@
 -- `arraylength`, `newarray`, `anewarray`, `new`, `checkcast`, `instanceof` and monitors are right.
-use Rattle.std.proofs.Common.{◌≡◌, ℕ, suc, pos, int_le, unsigned_abs, List, [], ◌∷◌, ◌++◌, Option, Some, None, Bool, true, false, refl, ap, sym, subst, ◌∙◌, if◌then◌else◌, length, slice_get, option_and_then, option_map, codes, arith, replicate}
+use Rattle.std.proofs.Common.{◌≡◌, ℕ, suc, pos, int_le, unsigned_abs, List, [], ◌∷◌, Option, Some, None, Bool, true, false, refl, ap, sym, subst, if◌then◌else◌, length, slice_get, option_map, codes, arith, replicate}
 use Rattle.std.specs.Prelude.{is_some, bytes_eq, ◌||◌}
-use Rattle.std.specs.List.{list_all}
 use Rattle.std.proofs.lemmas.Bool.{and_parts, or_left, or_right, le-leb}
-use Rattle.jv_model.specs.Partial.{passes, ◌>>=◌}
 use Rattle.jv_model.specs.Descriptors.{FieldType, byte_type, char_type, double_type, float_type, int_type as int_field, long_type as long_field, short_type, boolean_type, class_type, array_of}
 use Rattle.jv_model.specs.Flow.{goes_on as flow_goes_on}
-use Rattle.jv_model.specs.Instruction.{PrimitiveType, booleans_of, chars_of, bytes_of, shorts_of, ints_of, longs_of}
 use Rattle.world_model.specs.World.{World}
 use Rattle.world_model.specs.BootNames.{java_object}
-use Rattle.code_model.specs.TypeReading.{type_at, whole}
 use Rattle.typing_model.specs.VerificationType.{VerificationType, top, int as int_type, long as long_type, null as null_type, array as array_type, is_int, is_reference, is_same_field_type}
 use Rattle.typing_model.specs.ArrayTypes.{is_any_array}
-use Rattle.typing_model.specs.ObjectTypes.{primitive_type}
 use Rattle.typing_model.specs.Environment.{Environment}
 use Rattle.typing_model.specs.Transition.{below, popped, pushed, changed}
-use Rattle.machine_model.specs.Value.{Value, int, null, reference, zero_of, kind_of}
+use Rattle.machine_model.specs.Value.{Value, int, null, reference, zero_of, kind_of_type}
 use Rattle.machine_model.specs.Heap.{Contents, array, Object, words_of, Monitor, is_owned_by, is_owned_by_other, entered, exited}
-use Rattle.machine_model.specs.ObjectTypes.{own_type, component_of, array_type_of}
 use Rattle.machine_model.specs.Deed.{Deed, throws, blocked, Running, goes_on, allocates}
-use Rattle.machine_model.specs.ArraySteps.{array_length, new_array, primitive_descriptor}
+use Rattle.machine_model.specs.ArraySteps.{array_length, new_array}
 use Rattle.machine_model.specs.Monitors.{monitor_of, change_monitor, enter_monitor, exit_monitor, illegal_monitor_state}
-use Rattle.machine_model.specs.TypedValues.{HeapTyping, heap_typing, may_stand, stands_for, is_in_use, is_of_type, are_of_types, holds}
+use Rattle.machine_model.specs.TypedValues.{HeapTyping, heap_typing, may_stand, stands_for, is_in_use, is_of_type, are_of_types}
 use Rattle.frame_laws.proofs.Taking.{take_int, known_of}
 use Rattle.frame_laws.proofs.Outcome.{some_inj, both, popped_is, changed_is, map_is}
 use Rattle.frame_laws.proofs.Numbers.{int_lands}
 use Rattle.link_laws.proofs.Names.{text_same}
 use Rattle.typing_model.specs.Assignable.{names_interface}
-use Rattle.machine_laws.specs.Deeds.{IsRight}
+use Rattle.machine_laws.proofs.TypedStates.{IsTypedDeed}
 use Rattle.machine_laws.proofs.Heaps.{typed_is, and_next, allocated, new_type}
 use Rattle.machine_laws.proofs.Ready.{Ready, allocating, monitoring, throws_rightly, operands_fit, operands_then, pushes_rightly, pops_rightly}
 use Rattle.machine_laws.proofs.ArrayLoads.{array_there}
-use Rattle.machine_laws.proofs.Zeros.{zero_held, all_zero}
+use Rattle.machine_laws.proofs.Zeros.{zero_of_type, all_zero}
 use Rattle.machine_laws.proofs.Numbers.{gives_rightly}
 
 -- ---- operands
@@ -76,28 +70,6 @@ take_known heap e (type ∷ types) rest (reference id ∷ values) b f =
     (subst (λ (ts : List VerificationType). are_of_types heap e ts values ≡ true) (some_inj b) p.1)
 take_known heap e stack rest values b f = absurd cc
 
--- ---- descriptors of arrays
-
-bracketed : (descriptor : List ℕ) (type : FieldType) → array_type_of descriptor ≡ Some type
-    → array_type_of (codes "[" ++ descriptor) ≡ Some (array_of type)
-unfolding type_at
-bracketed descriptor type h = go (type_at descriptor) h
-  where
-    go : (o : Option (FieldType × List ℕ)) → whole o ≡ Some type
-        → whole (o >>= λ component. Some (array_of component.0, component.1)) ≡ Some (array_of type)
-    go None h = absurd cc
-    go (Some (t, [])) h = ap (λ (t : FieldType). Some (array_of t)) (some_inj h)
-    go (Some (t, u ∷ us)) h = absurd cc
-
-primitive_read : (type : PrimitiveType) → array_type_of (primitive_descriptor type) ≡ Some (primitive_type type)
-unfolding type_at
-primitive_read booleans_of = refl
-primitive_read chars_of = refl
-primitive_read bytes_of = refl
-primitive_read shorts_of = refl
-primitive_read ints_of = refl
-primitive_read longs_of = refl
-
 -- a type stands for itself
 same_stands : (a : FieldType) → is_same_field_type a a ≡ true
 unfolding is_same_field_type
@@ -132,52 +104,45 @@ module _ (r : Running) (live : ℕ → Bool) (ready : Ready r live) (on : flow_g
 
   -- `arraylength` is right
   pub array_length_is_right : changed ready.e (is_any_array ∷ []) (int_type ∷ []) ready.before ≡ Some ready.at.applies.after
-      → IsRight r.state.world (array_length r r.frame.stack)
+      → IsTypedDeed r.state.world (array_length r r.frame.stack)
   unfolding below
   array_length_is_right h =
       let c = changed_is ready.e (is_any_array ∷ []) (int_type ∷ []) ready.before ready.at.applies.after h in
       go c.0 c.2 (take_array heap ready.e ready.before.stack c.0 r.frame.stack c.1 (operands_fit r live ready))
     where
       go : (rest : List VerificationType) → pushed ready.e (int_type ∷ []) (record ready.before { stack = rest }) ≡ Some ready.at.applies.after
-          → ArrayOn heap ready.e rest r.frame.stack → IsRight r.state.world (array_length r r.frame.stack)
-      go rest h (null_on others is) = subst (λ (vs : List Value). IsRight r.state.world (array_length r vs)) (sym is)
+          → ArrayOn heap ready.e rest r.frame.stack → IsTypedDeed r.state.world (array_length r r.frame.stack)
+      go rest h (null_on others is) = subst (λ (vs : List Value). IsTypedDeed r.state.world (array_length r vs)) (sym is)
           (throws_rightly r live ready (codes "java/lang/NullPointerException") false refl)
       go rest h (array_on id component others is stands f) =
           let a = array_there r live ready id component stands in
-          subst (λ (vs : List Value). IsRight r.state.world (array_length r vs)) (sym is)
+          subst (λ (vs : List Value). IsTypedDeed r.state.world (array_length r vs)) (sym is)
           (rw a.there (gives_rightly r live ready on int_type rest rest (int (pos (length a.elements))) others h refl f (int_lands heap ready.e (pos (length a.elements)))))
 
   -- a new array of elements of a type is right
-  pub new_array_is_right : (descriptor : List ℕ) (type : FieldType) → array_type_of descriptor ≡ Some type
+  pub new_array_is_right : (type : FieldType)
       → changed ready.e (is_int ∷ []) (array_type type ∷ []) ready.before ≡ Some ready.at.applies.after
-      → IsRight r.state.world (new_array r descriptor r.frame.stack)
+      → IsTypedDeed r.state.world (new_array r type r.frame.stack)
   unfolding below are_of_types is_of_type
-  new_array_is_right descriptor type read h =
+  new_array_is_right type h =
       let c = changed_is ready.e (is_int ∷ []) (array_type type ∷ []) ready.before ready.at.applies.after h in
       let x = take_int heap ready.e [] ready.before.stack c.0 r.frame.stack c.1 (operands_fit r live ready) in
-      let contents : Contents = array (codes "[" ++ descriptor) (replicate (unsigned_abs x.found) (zero_of (kind_of descriptor))) in
-      let own : own_type contents ≡ Some (array_of type) = bracketed descriptor type read in
+      let contents : Contents = array type (replicate (unsigned_abs x.found) (zero_of (kind_of_type type))) in
       let more = and_next r.state live in
       let after = allocated r.state live contents in
       let follows = allocating r.state live contents ready.conforms
-      (ap (λ (o : Option FieldType). passes (λ t. list_all (holds (heap_typing after more) t) (replicate (unsigned_abs x.found) (zero_of (kind_of descriptor)))) (option_and_then component_of o)) own
-      ∙ all_zero (heap_typing after more) (unsigned_abs x.found) type (zero_of (kind_of descriptor)) (zero_held (heap_typing after more) descriptor type read)) in
-      subst (λ (vs : List Value). IsRight r.state.world (new_array r descriptor vs)) (sym x.is)
+      (all_zero (heap_typing after more) (unsigned_abs x.found) type (zero_of (kind_of_type type)) (zero_of_type (heap_typing after more) type)) in
+      subst (λ (vs : List Value). IsTypedDeed r.state.world (new_array r type vs)) (sym x.is)
       (either (int_le (pos 0) x.found) (allocates false r contents x.others)
       (pushes_rightly r live ready after more follows (words_of contents) false (array_type type ∷ []) c.0 (reference (length r.state.heap) ∷ x.others) on c.2
       (both (stands_for (heap_typing after more) (length r.state.heap) (array_of type)) (are_of_types (heap_typing after more) ready.e c.0 x.others)
-      (rw (new_type r.state live contents (array_of type) own) (stands_itself r.state.world (array_of type)))
+      (rw (new_type r.state live contents (array_of type) refl) (stands_itself r.state.world (array_of type)))
       (operands_then r live ready after more follows c.0 x.others (subst (λ (ts : List VerificationType). are_of_types heap ready.e ts x.others ≡ true) (some_inj x.are_below) x.fit)))))
     where
-      either : (fits : Bool) (deed : Deed) → IsRight r.state.world deed
-          → IsRight r.state.world (if fits then deed else throws (codes "java/lang/NegativeArraySizeException") false)
+      either : (fits : Bool) (deed : Deed) → IsTypedDeed r.state.world deed
+          → IsTypedDeed r.state.world (if fits then deed else throws (codes "java/lang/NegativeArraySizeException") false)
       either true deed right = right
       either false deed right = throws_rightly r live ready (codes "java/lang/NegativeArraySizeException") false refl
-
-  pub primitives_are_right : (type : PrimitiveType)
-      → changed ready.e (is_int ∷ []) (array_type (primitive_type type) ∷ []) ready.before ≡ Some ready.at.applies.after
-      → IsRight r.state.world (new_array r (primitive_descriptor type) r.frame.stack)
-  primitives_are_right type h = new_array_is_right (primitive_descriptor type) (primitive_type type) (primitive_read type) h
 
   -- ---- monitors
 
@@ -196,7 +161,7 @@ module _ (r : Running) (live : ℕ → Bool) (ready : Ready r live) (on : flow_g
   changes_rightly : (id : ℕ) (change : Monitor → Monitor) (rest : List VerificationType) (others : List Value)
       → record ready.before { stack = rest } ≡ ready.at.applies.after → are_of_types heap ready.e rest others ≡ true
       → r.frame.stack ≡ reference id ∷ others
-      → IsRight r.state.world (goes_on r (change_monitor [] (Some id) change r.state) others)
+      → IsTypedDeed r.state.world (goes_on r (change_monitor [] (Some id) change r.state) others)
   changes_rightly id change rest others h f is =
       let follows = monitoring [] (Some id) change r.state live ready.conforms in
       pops_rightly r live ready (change_monitor [] (Some id) change r.state) live follows 0 false rest others on h
@@ -204,39 +169,39 @@ module _ (r : Running) (live : ℕ → Bool) (ready : Ready r live) (on : flow_g
       (le-leb _ _ (let more : length r.frame.stack ≡ suc (length others) = ap length is in omega arith))
 
   pub enter_is_right : popped (is_reference ∷ []) ready.before ≡ Some ready.at.applies.after
-      → IsRight r.state.world (enter_monitor r r.frame.stack)
+      → IsTypedDeed r.state.world (enter_monitor r r.frame.stack)
   enter_is_right h =
       let p = popped_is (is_reference ∷ []) ready.before ready.at.applies.after h in
       go p.0 p.2 (take_known heap ready.e ready.before.stack p.0 r.frame.stack p.1 (operands_fit r live ready))
     where
-      either : (b : Bool) (deed : Deed) → IsRight r.state.world deed → IsRight r.state.world (if b then blocked else deed)
+      either : (b : Bool) (deed : Deed) → IsTypedDeed r.state.world deed → IsTypedDeed r.state.world (if b then blocked else deed)
       either true deed right = tt
       either false deed right = right
 
       go : (rest : List VerificationType) → record ready.before { stack = rest } ≡ ready.at.applies.after
-          → KnownOn heap ready.e rest r.frame.stack → IsRight r.state.world (enter_monitor r r.frame.stack)
-      go rest h (no_known others is) = subst (λ (vs : List Value). IsRight r.state.world (enter_monitor r vs)) (sym is)
+          → KnownOn heap ready.e rest r.frame.stack → IsTypedDeed r.state.world (enter_monitor r r.frame.stack)
+      go rest h (no_known others is) = subst (λ (vs : List Value). IsTypedDeed r.state.world (enter_monitor r vs)) (sym is)
           (throws_rightly r live ready (codes "java/lang/NullPointerException") false refl)
       go rest h (known_on id others is used f) =
           let m = monitor_there id used in
-          subst (λ (vs : List Value). IsRight r.state.world (enter_monitor r vs)) (sym is)
+          subst (λ (vs : List Value). IsTypedDeed r.state.world (enter_monitor r vs)) (sym is)
           (rw m.1 (either (is_owned_by_other r.thread m.0) _ (changes_rightly id (entered r.thread) rest others h f is)))
 
   pub exit_is_right : popped (is_reference ∷ []) ready.before ≡ Some ready.at.applies.after
-      → IsRight r.state.world (exit_monitor r r.frame.stack)
+      → IsTypedDeed r.state.world (exit_monitor r r.frame.stack)
   exit_is_right h =
       let p = popped_is (is_reference ∷ []) ready.before ready.at.applies.after h in
       go p.0 p.2 (take_known heap ready.e ready.before.stack p.0 r.frame.stack p.1 (operands_fit r live ready))
     where
-      either : (b : Bool) (deed : Deed) → IsRight r.state.world deed → IsRight r.state.world (if b then deed else illegal_monitor_state)
+      either : (b : Bool) (deed : Deed) → IsTypedDeed r.state.world deed → IsTypedDeed r.state.world (if b then deed else illegal_monitor_state)
       either true deed right = right
       either false deed right = throws_rightly r live ready (codes "java/lang/IllegalMonitorStateException") false refl
 
       go : (rest : List VerificationType) → record ready.before { stack = rest } ≡ ready.at.applies.after
-          → KnownOn heap ready.e rest r.frame.stack → IsRight r.state.world (exit_monitor r r.frame.stack)
-      go rest h (no_known others is) = subst (λ (vs : List Value). IsRight r.state.world (exit_monitor r vs)) (sym is)
+          → KnownOn heap ready.e rest r.frame.stack → IsTypedDeed r.state.world (exit_monitor r r.frame.stack)
+      go rest h (no_known others is) = subst (λ (vs : List Value). IsTypedDeed r.state.world (exit_monitor r vs)) (sym is)
           (throws_rightly r live ready (codes "java/lang/NullPointerException") false refl)
       go rest h (known_on id others is used f) =
           let m = monitor_there id used in
-          subst (λ (vs : List Value). IsRight r.state.world (exit_monitor r vs)) (sym is)
+          subst (λ (vs : List Value). IsTypedDeed r.state.world (exit_monitor r vs)) (sym is)
           (rw m.1 (either (is_owned_by r.thread m.0) _ (changes_rightly id exited rest others h f is)))

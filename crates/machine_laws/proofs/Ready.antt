@@ -1,5 +1,5 @@
 -- A thread at an instruction of verified code, and what its deeds lead to.
-use Rattle.std.proofs.Common.{◌≡◌, ℕ, zero, suc, List, [], ◌∷◌, ◌++◌, Option, Some, None, Bool, true, false, refl, ap, sym, subst, nat_le, slice_get, length, inl, ◌∙◌}
+use Rattle.std.proofs.Common.{◌≡◌, ℕ, List, ◌∷◌, ◌++◌, Option, Some, None, Bool, true, false, refl, ap, sym, subst, nat_le, slice_get, length, inl, ◌∙◌}
 use Rattle.std.specs.Prelude.{IsTrue, bytes_eq}
 use Rattle.std.specs.List.{list_all, list_any}
 use Rattle.std.proofs.lemmas.Bool.{and_parts, or_left, or_right}
@@ -25,8 +25,9 @@ use Rattle.frame_laws.proofs.Outcome.{both, pushed_is}
 use Rattle.frame_laws.proofs.Standing.{Typed, At}
 use Rattle.frame_laws.proofs.Onward.{arrives_next}
 use Rattle.frame_laws.proofs.Growing.{all_pass, locals_kept, operands_kept, held_kept, callers_kept, thread_kept}
+use Rattle.state_laws.proofs.Lists.{all_replaced}
 use Rattle.machine_laws.specs.Runnable.{IsRunnable, thrown_names}
-use Rattle.machine_laws.specs.Deeds.{IsRight}
+use Rattle.machine_laws.proofs.TypedStates.{IsTypedDeed}
 use Rattle.machine_laws.proofs.Heaps.{Grows, and_next, allocated, allocation_grows, allocation_conforms, rewritten, rewriting_grows, rewriting_conforms, monitor_grows, monitor_conforms}
 
 -- ---- a state with other threads
@@ -42,16 +43,6 @@ shared_with state live threads shared = record {
   arguments = shared.arguments;
   objects = shared.objects;
 }
-
--- what all elements pass they still do where one is changed so that it passes
-pub all_replaced : {A : Type 0} (test : A → Bool) (change : A → A) → ((a : A) → test a ≡ true → test (change a) ≡ true)
-    → (list : List A) (n : ℕ) → list_all test list ≡ true → list_all test (replace_at change list n) ≡ true
-all_replaced test change each [] n h = refl
-all_replaced test change each (a ∷ rest) zero h =
-    let p = and_parts (test a) (list_all test rest) h in both (test (change a)) (list_all test rest) (each a p.0) p.1
-all_replaced test change each (a ∷ rest) (suc n) h =
-    let p = and_parts (test a) (list_all test rest) h in
-    both (test a) (list_all test (replace_at change rest n)) p.0 (all_replaced test change each rest n p.1)
 
 -- a thread has other frames that conform
 pub frames_set : (state : State) (live : ℕ → Bool) (t : ℕ) (frames : List Frame) → ConformsWith state live
@@ -146,7 +137,7 @@ pub record Ready (r : Running) (live : ℕ → Bool) : Type 0 where
 module _ (r : Running) (live : ℕ → Bool) (ready : Ready r live) where
   -- a throw of a class of which the machine throws objects
   pub throws_rightly : (name : List ℕ) (native : Bool) → IsTrue (list_any (bytes_eq name) thrown_names)
-      → IsRight r.state.world (throws name native)
+      → IsTypedDeed r.state.world (throws name native)
   throws_rightly name native h = ready.runnable.throwables name h
 
   pub locals_fit : pointwise (is_of_type (heap_typing r.state live) ready.e) ready.before.locals r.frame.locals ≡ true
@@ -187,7 +178,7 @@ module _ (r : Running) (live : ℕ → Bool) (ready : Ready r live) where
     -- the current frame goes on behind its instruction with these operands
     pub goes_rightly : (words : ℕ) (mark : Bool) (rest : List Value) → goes_on ready.at.placed.instruction ≡ true
         → fits_frame (heap_typing after more) ready.e (frame_after r rest) ready.at.applies.after ≡ true
-        → IsRight r.state.world (does words mark (with_frames r (frame_after r rest ∷ r.callers) after))
+        → IsTypedDeed r.state.world (does words mark (with_frames r (frame_after r rest ∷ r.callers) after))
     goes_rightly words mark rest on fits = record {
       live = more;
       is = frames_set after more r.thread (frame_after r rest ∷ r.callers) follows.conforms
@@ -203,7 +194,7 @@ module _ (r : Running) (live : ℕ → Bool) (ready : Ready r live) where
     pub finishes_rightly : (words : ℕ) (mark : Bool) (rest : List Value) → goes_on ready.at.placed.instruction ≡ true
         → fits_frame (heap_typing after more) ready.e (frame_after r rest) ready.at.applies.after ≡ true
         → has_room r.body r.frame.stack rest ≡ true
-        → IsRight r.state.world (finishes words mark r after rest)
+        → IsTypedDeed r.state.world (finishes words mark r after rest)
     finishes_rightly words mark rest on fits room = rw room (goes_rightly words mark rest on fits)
 
     -- operands of types that were pushed have room
@@ -211,7 +202,7 @@ module _ (r : Running) (live : ℕ → Bool) (ready : Ready r live) where
         → goes_on ready.at.placed.instruction ≡ true
         → pushed ready.e types (record ready.before { stack = below }) ≡ Some ready.at.applies.after
         → are_of_types (heap_typing after more) ready.e (types ++ below) rest ≡ true
-        → IsRight r.state.world (finishes words mark r after rest)
+        → IsTypedDeed r.state.world (finishes words mark r after rest)
     pushes_rightly words mark types below rest on h fit =
         let p = pushed_is ready.e types (record ready.before { stack = below }) ready.at.applies.after h in
         finishes_rightly words mark rest on
@@ -227,7 +218,7 @@ module _ (r : Running) (live : ℕ → Bool) (ready : Ready r live) where
         → record ready.before { stack = below } ≡ ready.at.applies.after
         → are_of_types (heap_typing after more) ready.e below rest ≡ true
         → nat_le (length rest) (length r.frame.stack) ≡ true
-        → IsRight r.state.world (finishes words mark r after rest)
+        → IsTypedDeed r.state.world (finishes words mark r after rest)
     pops_rightly words mark below rest on h fit fewer =
         finishes_rightly words mark rest on
         (subst (λ (a : TypeFrame). fits_frame (heap_typing after more) ready.e (frame_after r rest) a ≡ true) h

@@ -35,7 +35,7 @@ use Rattle.frame_laws.proofs.Standing.{typed_frame, at_pc, conforms_is}
 use Rattle.frame_laws.proofs.Onward.{subsumes, arrives_next}
 use Rattle.frame_laws.proofs.Growing.{holds_kept}
 use Rattle.machine_laws.specs.Runnable.{IsRunnable, is_operand}
-use Rattle.machine_laws.specs.Deeds.{IsRight}
+use Rattle.machine_laws.proofs.TypedStates.{IsTypedDeed}
 use Rattle.machine_laws.proofs.Ready.{Ready, Follows, itself, monitoring, frames_set, throws_rightly, operands_fit, callers_then}
 use Rattle.machine_laws.proofs.Operands.{lands, held_of_type, of_type_held, take_wanted}
 use Rattle.machine_laws.proofs.Fields.{taken_onto}
@@ -175,10 +175,10 @@ module _ (r : Running) (live : ℕ → Bool) (ready : Ready r live) where
   leaves_rightly : (state : State) → Follows r.state live state live → (type : MethodType) (result : Option Value)
       → method_type_of r.frame.method.descriptor ≡ Some type → Gives (heap_typing state live) type result
       → (callers : List Frame) → callers_conform (heap_typing state live) r.frame.method.descriptor callers ≡ true
-      → IsRight r.state.world (leaves r state result callers)
+      → IsTypedDeed r.state.world (leaves r state result callers)
   unfolding callers_conform
   leaves_rightly state f type result read gives [] conform =
-      subst (λ (w : World). IsRight w (leaves r state result [])) f.same_world
+      subst (λ (w : World). IsTypedDeed w (leaves r state result [])) f.same_world
       (starts_next_is_right state live (subst IsRunnable (sym f.same_world) ready.runnable) r.thread (methods_to_start state r.thread) f.conforms (to_start_right state live f.conforms r.thread))
   leaves_rightly state f type result read gives (caller ∷ callers) conform =
       let p = and_parts (frame_conforms (heap_typing state live) (λ e. waiting_types r.frame.method.descriptor e caller.pc) caller) (callers_conform (heap_typing state live) caller.method.descriptor callers) conform in
@@ -199,7 +199,7 @@ module _ (r : Running) (live : ℕ → Bool) (ready : Ready r live) where
 
   -- a return with a result that the method gives is right
   pub return_with_is_right : (result : Option Value) → Gives (heap_typing r.state live) ready.e.type result
-      → IsRight r.state.world (return_with r result)
+      → IsTypedDeed r.state.world (return_with r result)
   return_with_is_right result gives =
       let of = of_frame r.state.world r.frame ready.e ready.is_environment in
       let f = leaving r.thread r.frame r.state live ready.conforms in
@@ -207,13 +207,13 @@ module _ (r : Running) (live : ℕ → Bool) (ready : Ready r live) where
       (leaves_rightly (left_by r.thread r.frame r.state) f ready.e.type result (ap method_type_of (sym of.same_descriptor) ∙ of.is_type) (gives_then (left_by r.thread r.frame r.state) f ready.e.type result gives) r.callers
       (callers_then r live ready (left_by r.thread r.frame r.state) live f))
     where
-      either : (b : Bool) (deed : Deed) → IsRight r.state.world deed → IsRight r.state.world (if b then illegal_monitor_state else deed)
+      either : (b : Bool) (deed : Deed) → IsTypedDeed r.state.world deed → IsTypedDeed r.state.world (if b then illegal_monitor_state else deed)
       either true deed right = throws_rightly r live ready (codes "java/lang/IllegalMonitorStateException") false refl
       either false deed right = right
 
   -- `return` is right
   pub return_void_is_right : returned ready.e ready.before ≡ Some ready.at.applies.after
-      → IsRight r.state.world (return_with r None)
+      → IsTypedDeed r.state.world (return_with r None)
   return_void_is_right h =
       let w = when_is (is_none ready.e.type.result && not (is_constructor ready.e && has this ready.before.locals)) (Some ready.before) ready.at.applies.after h in
       return_with_is_right None (nothing (is_nothing ready.e.type.result (and_parts (is_none ready.e.type.result) (not (is_constructor ready.e && has this ready.before.locals)) w.0).0))
@@ -224,7 +224,7 @@ module _ (r : Running) (live : ℕ → Bool) (ready : Ready r live) where
 
   -- `ireturn`, `lreturn` and `areturn` are right
   pub return_value_is_right : (kind : ValueKind) → value_returned ready.e kind ready.before ≡ Some ready.at.applies.after
-      → IsRight r.state.world (return_of r kind)
+      → IsTypedDeed r.state.world (return_of r kind)
   return_value_is_right kind h =
       let type = bind_is (λ result. if is_of_kind kind result then popped (to ready.e result ∷ []) ready.before else None) (option_map type_of ready.e.type.result) ready.at.applies.after h in
       let field = map_is type_of ready.e.type.result type.0 type.1 in

@@ -26,6 +26,12 @@ use Rattle.run_laws.proofs.StepKeeps.{step_keeps, run_keeps}
 use Rattle.run_laws.proofs.Fronts.{behind_not}
 use Rattle.machine_laws.specs.Runnable.{IsRunnable}
 use Rattle.machine_laws.specs.Deeds.{IsRight, IsRightStep, is_run}
+use Rattle.state_laws.specs.Laws.{KeptIn}
+use Rattle.state_laws.proofs.Changes.{mark_kept}
+use Rattle.state_laws.proofs.Steps.{deed_is_kept, throw_is_kept}
+use Rattle.world_model.specs.World.{World}
+use Rattle.machine_model.specs.Throwing.{throws_new}
+use Rattle.machine_laws.proofs.TypedStates.{IsTypedDeed}
 use Rattle.machine_laws.proofs.Calling.{of_frame}
 use Rattle.machine_laws.proofs.Beginning.{thread_set}
 use Rattle.machine_laws.proofs.Catching.{throws_new_is_right}
@@ -33,11 +39,21 @@ use Rattle.machine_laws.proofs.Deeds.{instruction_right}
 
 -- ---- deeds
 
+-- a deed that is typed and leaves what is well kept is right
+both_right : (world : World) (deed : Deed) → IsTypedDeed world deed → KeptIn deed → IsRight world deed
+both_right world (throws class native) typed kept = typed
+both_right world blocked typed kept = tt
+both_right world is_deep typed kept = tt
+both_right world is_crowded typed kept = tt
+both_right world is_full typed kept = tt
+both_right world (does words mark state) typed kept = record { live = typed.live; is = typed.is; kept = kept }
+both_right world wrong typed kept = typed
+
 module _ (state : State) (runnable : IsRunnable state.world) (c : Conforms state) where
-  frames_right : (t : ℕ) (thread : Thread) → slice_get state.threads t ≡ Some thread → (frames : List Frame)
-      → thread.frames ≡ frames → (length frames == 0) ≡ false → IsRight state.world (deed_of_frames state t frames)
-  frames_right t thread there [] are live = absurd cc
-  frames_right t thread there (frame ∷ callers) are live =
+  frames_typed : (t : ℕ) (thread : Thread) → slice_get state.threads t ≡ Some thread → (frames : List Frame)
+      → thread.frames ≡ frames → (length frames == 0) ≡ false → IsTypedDeed state.world (deed_of_frames state t frames)
+  frames_typed t thread there [] are live = absurd cc
+  frames_typed t thread there (frame ∷ callers) are live =
       let all = all_of (thread_conforms (heap_typing state c.live)) state.threads t thread c.is.threads there in
       let conform = subst (λ (fs : List Frame). frames_conform (heap_typing state c.live) fs ≡ true) are (and_parts (frames_conform (heap_typing state c.live) thread.frames) (list_all (can_begin state.world) thread.to_start) all).0 in
       let q = and_parts (frame_conforms (heap_typing state c.live) (λ e. current_types e frame.pc) frame) (callers_conform (heap_typing state c.live) frame.method.descriptor callers) conform in
@@ -65,19 +81,24 @@ module _ (state : State) (runnable : IsRunnable state.world) (c : Conforms state
         callers = q.1;
       }) at.placed.instruction refl at.applies.is_after (runnable.uses frame p.e frame.pc at.placed p.is_environment at.is_placed))
 
-  -- A live thread's deed is right.
-  pub deed_is_right : (t : ℕ) → lives state t ≡ true → IsRight state.world (deed_of state t)
+  -- A live thread's deed is typed.
+  deed_is_typed : (t : ℕ) → lives state t ≡ true → IsTypedDeed state.world (deed_of state t)
   unfolding deed_of
-  deed_is_right t live = go (slice_get state.threads t) refl live
+  deed_is_typed t live = go (slice_get state.threads t) refl live
     where
       alive : (b : Bool) → not b ≡ true → b ≡ false
       alive false h = refl
       alive true h = absurd cc
 
       go : (o : Option Thread) → slice_get state.threads t ≡ o → unwrap_or (option_map (λ th. not (has_ended th)) o) false ≡ true
-          → IsRight state.world (deed_of state t)
+          → IsTypedDeed state.world (deed_of state t)
       go None at live = absurd cc
-      go (Some thread) at live = rw at (frames_right t thread at thread.frames refl (alive (has_ended thread) live))
+      go (Some thread) at live = rw at (frames_typed t thread at thread.frames refl (alive (has_ended thread) live))
+
+  -- A live thread's deed is right.
+  pub deed_is_right : (t : ℕ) → lives state t ≡ true → IsRight state.world (deed_of state t)
+  deed_is_right t live =
+      both_right state.world (deed_of state t) (deed_is_typed t live) (deed_is_kept state t runnable.frames_fit c.kept)
 
 -- ---- steps
 
@@ -93,25 +114,32 @@ module _ (machine : Machine) (c : Conforms machine.state) (t : ℕ) where
       go false end = record {
         live = after.live;
         is = thread_set state after.live t (λ (th : Thread). record th { mark = mark }) after.is (λ th h. h);
+        kept = mark_kept state t mark after.kept;
       }
 
   -- a right deed makes a right step
-  by_deed : IsRunnable machine.state.world → (deed : Deed) → IsRight machine.state.world deed → IsRightStep (step_by machine t deed)
+  by_deed : IsRunnable machine.state.world → (deed : Deed) → deed_of machine.state t ≡ deed → IsRight machine.state.world deed → IsRightStep (step_by machine t deed)
   unfolding step_by
-  by_deed runnable (throws name native) right =
-      doing_right _ _ _ (throws_new_is_right machine.state c.live runnable c.is t name native right)
-  by_deed runnable blocked right = tt
-  by_deed runnable is_deep right = c
-  by_deed runnable is_crowded right = c
-  by_deed runnable is_full right = c
-  by_deed runnable (does words mark state) right = doing_right words mark state right
-  by_deed runnable wrong right = right
+  by_deed runnable (throws name native) is right =
+      thrown_right (throws_new t name native machine.state) refl (throws_new_is_right machine.state c.live runnable c.is t name native right)
+      (throw_is_kept machine.state t name native runnable.frames_fit c.kept is)
+    where
+      thrown_right : (deed : Deed) → throws_new t name native machine.state ≡ deed → IsTypedDeed machine.state.world deed → KeptIn deed
+          → IsRightStep (step_by_doing machine t deed)
+      thrown_right (does words mark state) same typed kept = doing_right words mark state (record { live = typed.live; is = typed.is; kept = kept })
+      thrown_right other same typed kept = absurd cc
+  by_deed runnable blocked is right = tt
+  by_deed runnable is_deep is right = c
+  by_deed runnable is_crowded is right = c
+  by_deed runnable is_full is right = c
+  by_deed runnable (does words mark state) is right = doing_right words mark state right
+  by_deed runnable wrong is right = right
 
 -- A step of a live thread is right.
 pub step_is_right : (machine : Machine) → IsRunnable machine.state.world
     → Conforms machine.state → (t : ℕ) → lives machine.state t ≡ true → IsRightStep (step_of machine t)
 step_is_right machine runnable c t live =
-    by_deed machine c t runnable (deed_of machine.state t) (deed_is_right machine.state runnable c t live)
+    by_deed machine c t runnable (deed_of machine.state t) refl (deed_is_right machine.state runnable c t live)
 
 -- ---- entries
 

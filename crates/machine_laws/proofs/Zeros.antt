@@ -7,19 +7,11 @@ use lib.Pointwise.{pointwise}
 use Rattle.jv_model.specs.Partial.{passes, ◌>>=◌}
 use Rattle.jv_model.specs.Operand.{MemberReference}
 use Rattle.jv_model.specs.Descriptors.{FieldType, byte_type, char_type, double_type, float_type, int_type, long_type, short_type, boolean_type, class_type, array_of}
-use Rattle.jv_model.specs.Instruction.{ValueKind, of_int, of_long, of_reference}
+use Rattle.jv_model.specs.Instruction.{ValueKind}
 use Rattle.code_model.specs.TypeReading.{type_at, whole, class_type_at, before_semicolon, is_class_name, base_type, field_type_of, dimensions, most_dimensions}
-use Rattle.machine_model.specs.Value.{Value, int, long, null, reference, zero_of, zeros, kind_of, is_of_kind}
-use Rattle.machine_model.specs.ObjectTypes.{array_type_of}
+use Rattle.machine_model.specs.Value.{Value, int, long, null, reference, zero_of, zeros, kind_of, kind_of_type, is_of_kind}
 use Rattle.machine_model.specs.TypedValues.{HeapTyping, holds, is_declared}
 use Rattle.frame_laws.proofs.Outcome.{some_inj, both}
-
--- the kind of the values of a type
-abbrev pub kind_of_type : FieldType → ValueKind
-kind_of_type long_type = of_long
-kind_of_type (class_type name) = of_reference
-kind_of_type (array_of component) = of_reference
-kind_of_type other = of_int
 
 -- the first answer or a later one
 pick : {A : Type 0} (b : Bool) (x y : A) (rest : Option A) → cond b (Some x) rest ≡ Some y
@@ -87,7 +79,7 @@ module _ (heap : HeapTyping) where
   base_is (u ∷ us) (Some b) t h = absurd cc
 
   -- the kind of a descriptor is that of its type
-  pub kind_read : (descriptor : List ℕ) (t : FieldType) → array_type_of descriptor ≡ Some t
+  pub kind_read : (descriptor : List ℕ) (t : FieldType) → whole (type_at descriptor) ≡ Some t
       → kind_of descriptor ≡ kind_of_type t
   unfolding type_at
   kind_read [] t h = absurd cc
@@ -104,14 +96,15 @@ module _ (heap : HeapTyping) where
       bracket true is h = let c = whole_is (type_at us) array_of t h in at_unit u 0x5B us (array_of c.0) t is c.1 refl
       bracket false is h = letter (u == 0x4C) refl h
 
-  zero_of_type : (t : FieldType) → holds heap t (zero_of (kind_of_type t)) ≡ true
+  -- a field or an element of a type holds its zero
+  pub zero_of_type : (t : FieldType) → holds heap t (zero_of (kind_of_type t)) ≡ true
   zero_of_type long_type = refl
   zero_of_type (class_type name) = refl
   zero_of_type (array_of component) = refl
   zero_of_type other = refl
 
-  -- a field or an element of a type holds the zero of its descriptor
-  pub zero_held : (descriptor : List ℕ) (t : FieldType) → array_type_of descriptor ≡ Some t
+  -- a field of a type holds the zero of its descriptor
+  zero_held : (descriptor : List ℕ) (t : FieldType) → whole (type_at descriptor) ≡ Some t
       → holds heap t (zero_of (kind_of descriptor)) ≡ true
   zero_held descriptor t h = ap (λ (k : ValueKind). holds heap t (zero_of k)) (kind_read descriptor t h) ∙ zero_of_type t
 
@@ -129,7 +122,7 @@ module _ (heap : HeapTyping) where
   held_kind other value h = absurd cc
 
   -- the type of a field's descriptor is read of it without a limit, too
-  pub read_too : (descriptor : List ℕ) (t : FieldType) → field_type_of descriptor ≡ Some t → array_type_of descriptor ≡ Some t
+  pub read_too : (descriptor : List ℕ) (t : FieldType) → field_type_of descriptor ≡ Some t → whole (type_at descriptor) ≡ Some t
   read_too descriptor t h = go (type_at descriptor) h
     where
       go : (o : Option (FieldType × List ℕ))

@@ -2,11 +2,11 @@
 //! conforms.
 //!
 //! Each law is the contract of a function that does nothing, and `specs/Laws` says it; `specs/Runnable`
-//! has what is asked of a world, and `specs/Deeds` what a right deed is. Of native methods a world's code
-//! may call the constructors that do nothing, and no others: what those do is no part of these laws.
+//! has what is asked of a world, its native methods among it, and `specs/Deeds` what a right deed is.
+//! What the machine keeps whatever code it runs is `state_laws`'s.
 //! The lemmas behind them are for the crates above: `proofs/Heaps` for changes of the heap, `Ready` for
-//! a thread at an instruction, a module for each family of instructions, `Catching` for throws, `Deeds`
-//! for all instructions, `Steps` for steps.
+//! a thread at an instruction, a module for each family of instructions, `Natives` and `Threads` for
+//! native methods, `Catching` for throws, `Deeds` for all instructions, `Steps` for steps.
 #![tactic(auto)]
 
 mod progress;

@@ -18,10 +18,10 @@ use Rattle.typing_model.specs.CallTypes.{results}
 use Rattle.typing_model.specs.InstructionTypes.{type_step}
 use Rattle.typing_model.specs.FailingPlace.{type_frame_at}
 use Rattle.machine_model.specs.Heap.{Contents, instance, array, string, contents_at}
-use Rattle.machine_model.specs.ObjectTypes.{element_type}
 use Rattle.machine_model.specs.State.{Frame, Thread, Static, ClassMonitor, Interned, State}
 use Rattle.machine_model.specs.LocalStep.{instruction_at}
 use Rattle.machine_model.specs.Monitors.{is_synchronized}
+use Rattle.machine_model.specs.WellKept.{WellKept}
 use Rattle.machine_model.specs.TypedValues.{HeapTyping, heap_typing, is_in_use, fits_frame, holds, is_declared}
 
 -- ---- frames
@@ -107,8 +107,7 @@ is_present world name = passes (λ (c : Class). not (is_stub c)) (class_in world
 abbrev pub contents_conform : HeapTyping → Contents → Bool
 contents_conform heap (instance name values) = is_present heap.world name && not (bytes_eq name java_string)
     && pointwise (λ (f : MemberReference) value. is_declared heap f.descriptor value) (layout heap.world name) values
-contents_conform heap (array descriptor elements) =
-    passes (λ type. list_all (holds heap type) elements) (element_type descriptor)
+contents_conform heap (array type elements) = list_all (holds heap type) elements
 contents_conform heap (string units) = true
 
 abbrev pub is_string : List ℕ → Contents → Bool
@@ -145,3 +144,4 @@ pub record ConformsWith (state : State) (live : ℕ → Bool) : Type 0 where
 pub record Conforms (state : State) : Type 0 where
   pub live : ℕ → Bool
   pub is : ConformsWith state live
+  pub kept : WellKept state

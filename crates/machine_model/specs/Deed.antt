@@ -51,7 +51,7 @@ operands running = running.frame.stack
 -- the class whose methods an object has
 abbrev pub class_of_contents : Contents → List ℕ
 class_of_contents (instance class values) = class
-class_of_contents (array descriptor elements) = java_object
+class_of_contents (array type elements) = java_object
 class_of_contents (string units) = java_string
 
 abbrev pub class_of : State → ℕ → Option (List ℕ)

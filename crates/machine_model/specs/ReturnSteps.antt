@@ -1,5 +1,5 @@
 -- ireturn, lreturn, areturn, return (JVMS 6.5, 2.6.4), and the methods that a thread is to run one after another.
-use Rattle.std.specs.Prelude.{ℕ, List, [], ◌∷◌, true, ◌&&◌, not, ◌==◌, if◌then◌else◌, Option, Some, None, length, option_to_list, flat_map, slice_get}
+use Rattle.std.specs.Prelude.{ℕ, List, [], ◌∷◌, true, ◌&&◌, not, ◌==◌, if◌then◌else◌, Option, Some, None, option_to_list, flat_map, slice_get}
 use Rattle.jv_model.specs.Operand.{MemberReference}
 use Rattle.jv_model.specs.Instruction.{ValueKind}
 use Rattle.world_model.specs.World.{Method}

@@ -1,5 +1,5 @@
 -- Which values are of a type: of a declared one (JVMS 4.3.2), and of one that typing finds (JVMS 4.10.1.2).
-use Rattle.std.specs.Prelude.{ℕ, List, [], ◌∷◌, Bool, true, false, ◌&&◌, ◌||◌, if◌then◌else◌, Option, Some, None, is_some, bytes_eq, option_and_then}
+use Rattle.std.specs.Prelude.{ℕ, List, [], ◌∷◌, Bool, true, false, ◌&&◌, ◌||◌, if◌then◌else◌, Option, Some, None, is_some, bytes_eq, option_map, option_and_then}
 use lib.Pointwise.{pointwise}
 use Rattle.jv_model.specs.Partial.{passes}
 use Rattle.jv_model.specs.Descriptors.{FieldType, class_type, array_of, long_type}
@@ -28,7 +28,7 @@ pub record HeapTyping : Type 0 where
 abbrev pub heap_typing : State → (ℕ → Bool) → HeapTyping
 heap_typing state live = record {
   world = state.world;
-  type_at = λ id. if live id then option_and_then own_type (contents_at state.heap id) else None;
+  type_at = λ id. if live id then option_map own_type (contents_at state.heap id) else None;
 }
 
 -- Whether an object of the first type may stand where the second is declared. A place for an interface, like one for

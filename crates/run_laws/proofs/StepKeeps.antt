@@ -5,12 +5,11 @@ use Rattle.jv_model.specs.Instruction.{Instruction, ldc, array_load, array_store
 use Rattle.jv_model.specs.Code.{Body, Placed}
 use Rattle.jv_model.specs.End.{End}
 use Rattle.jv_model.specs.Journal.{run}
-use Rattle.code_model.specs.TypeReading.{descriptor_of}
 use Rattle.typing_model.specs.Environment.{named_type}
+use Rattle.typing_model.specs.ObjectTypes.{primitive_type}
 use Rattle.machine_model.specs.State.{Frame, Thread, State}
 use Rattle.machine_model.specs.LocalStep.{Local, goes_to, not_local, wrong as wrong_frame}
 use Rattle.machine_model.specs.Deed.{Deed, throws, blocked, is_deep, is_crowded, is_full, does, wrong, Running, operands}
-use Rattle.machine_model.specs.ArraySteps.{primitive_descriptor}
 use Rattle.machine_model.specs.Throwing.{throws_new}
 use Rattle.machine_model.specs.SharedStep.{shared_step, deed_at, deed_of_frames, deed_of}
 use Rattle.machine_model.specs.Machine.{Machine}
@@ -44,9 +43,9 @@ shared_step_keeps running (invokespecial (member_named m)) = invoke_special_keep
 shared_step_keeps running (invokestatic (member_named m)) = invoke_static_keeps running m
 shared_step_keeps running (invokeinterface (member_named m)) = invoke_interface_keeps running m
 shared_step_keeps running (new (class_named name)) = new_object_keeps running name
-shared_step_keeps running (newarray type) = new_array_keeps running (primitive_descriptor type) (operands running)
+shared_step_keeps running (newarray type) = new_array_keeps running (primitive_type type) (operands running)
 shared_step_keeps running (anewarray (class_named name)) =
-    new_array_keeps running (descriptor_of (named_type name)) (operands running)
+    new_array_keeps running (named_type name) (operands running)
 shared_step_keeps running arraylength = array_length_keeps running _
 shared_step_keeps running athrow = throw_object_keeps running _
 shared_step_keeps running (checkcast (class_named name)) = check_cast_keeps running name _

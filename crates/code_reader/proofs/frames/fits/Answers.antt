@@ -1,4 +1,4 @@
-use Rattle.std.proofs.Common.{◌≡◌, ◌∙◌, sym, true, true≢false}
+use Rattle.std.proofs.Common.{◌∙◌, sym, true≢false}
 use Rattle.code_reader.proofs.Nearness.{near_start}
 use Rattle.code_reader.proofs.frames.fits.Goals.{then-is_start, else-is_start}
 use Rattle.code_reader.proofs.frames.fits.Goals as goal

@@ -1,10 +1,10 @@
-use Rattle.std.proofs.Common.{◌≡◌, ◌∙◌, ◌++◌, sym, ap, option_map, Option, Some, None, Ok, arith, ℕ, List}
+use Rattle.std.proofs.Common.{◌∙◌, sym, ap, option_map, Option, Ok, arith, ℕ, List}
 use Rattle.std.proofs.lemmas.List.{length-map, map_push, append-nil}
 use Rattle.std.proofs.lemmas.Option.{slice_get-map}
-use Rattle.jv_model.specs.Refusal.{Cause, wrong_map_frame}
+use Rattle.jv_model.specs.Refusal.{wrong_map_frame}
 use Rattle.jv_model.specs.Code.{MapFrame}
 use Rattle.jv_types.specs.Code.{frame_of, map_types_of}
-use Rattle.code_model.specs.CodeReading.{frames_end, frames_from}
+use Rattle.code_model.specs.CodeReading.{frames_end}
 use Rattle.code_reader.specs.Frames.{bounds_of, frames_in}
 use Rattle.code_reader.specs.Parts.{entry_of, entries_of, table_of}
 use Rattle.code_reader.proofs.InstructionLists.{items_in_front}

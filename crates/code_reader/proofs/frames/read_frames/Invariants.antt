@@ -1,4 +1,4 @@
-use Rattle.std.proofs.Common.{◌≡◌, ◌<◌, drop, ℕ}
+use Rattle.std.proofs.Common.{◌≡◌, ◌<◌, drop}
 use Rattle.std.specs.Prelude.{IfSome}
 use Rattle.jv_types.specs.Code.{map_types_of}
 use Rattle.jv_types.specs.Instructions.{most_places}

@@ -1,9 +1,7 @@
 use Rattle.std.proofs.Common.{◌∙◌, ap, refl}
 use Rattle.jv_types.specs.ClassData.{class_data_of}
-use Rattle.jv_types.specs.Reading.{Refuses}
 use Rattle.code_model.specs.InstructionReading.{cut_is_wrong}
 use Rattle.code_laws.proofs.Instructions.{site_of}
-use Rattle.code_reader.specs.Gives.{code_refusal}
 use Rattle.code_reader.specs.Instruction.{uncut_at}
 use Rattle.code_reader.proofs.InstructionLists.{instruction_is}
 use Rattle.code_reader.proofs.instruction.read_instruction.Goals as goal

@@ -1,12 +1,10 @@
-use Rattle.std.proofs.Common.{◌≡◌, ℕ, suc, ◌+◌, ◌-◌, ◌<◌, ◌∙◌, sym, ap, subst, length, length-append, arith, ◌∷◌, [], ◌++◌}
+use Rattle.std.proofs.Common.{◌≡◌, suc, ◌+◌, ◌-◌, ◌<◌, ◌∙◌, sym, ap, length, length-append, arith, ◌∷◌, [], ◌++◌}
 use Rattle.std.proofs.lemmas.Result.{err_from_is_err_and}
 use Rattle.std.proofs.lemmas.Bool.{eqb-true}
 use Rattle.jv_types.specs.ClassData.{class_data_of}
-use Rattle.jv_types.specs.Instructions.{placed_of, end_of}
-use Rattle.jv_types.specs.Reading.{Refuses}
+use Rattle.jv_types.specs.Instructions.{placed_of}
 use Rattle.jv_types.proofs.Tables.{end_from_push}
 use Rattle.code_model.specs.InstructionReading.{instructions_within}
-use Rattle.code_reader.specs.Gives.{code_refusal}
 use Rattle.code_reader.proofs.InstructionLists.{items_in_front, some_left, goes_on, is_refused, is_done}
 use Rattle.code_reader.proofs.Nearness.{near_push}
 use Rattle.code_reader.proofs.instruction.read_instructions.Goals as goal

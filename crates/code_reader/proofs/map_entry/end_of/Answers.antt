@@ -1,5 +1,4 @@
 use Rattle.std.proofs.Common.{refl}
-use Rattle.jv_model.specs.Refusal.{truncated, extra_bytes, wrong_shape}
 use Rattle.code_reader.specs.Parts.{entries_of}
 use Rattle.code_reader.proofs.MapTables.{ends_early, ends_refused}
 use Rattle.code_reader.proofs.map_entry.end_of.Goals as goal

@@ -1,4 +1,4 @@
-use Rattle.std.proofs.Common.{◌≡◌, List, ℕ, ◌∙◌, sym, ap, find, option_map, Option, arith}
+use Rattle.std.proofs.Common.{◌∙◌, sym, ap, option_map, Option, arith}
 use Rattle.std.proofs.lemmas.List.{length-map}
 use Rattle.std.proofs.lemmas.Option.{slice_get-map}
 use Rattle.jv_model.specs.ClassData.{Attr}

@@ -1,10 +1,9 @@
-use Rattle.std.proofs.Common.{◌≡◌, ℕ, ◌∙◌, sym, ap, subst, option_map, Some, Result}
+use Rattle.std.proofs.Common.{ℕ, ◌∙◌, ap, subst, option_map, Result}
 use Rattle.jv_model.specs.Refusal.{Cause}
 use Rattle.jv_model.specs.Code.{Body}
 use Rattle.jv_types.specs.Code.{body_of}
 use Rattle.code_reader.specs.Gives.{GivesCode}
 use Rattle.code_reader.proofs.Stages.{stages_are}
-use Rattle.std.specs.List.{slice_get}
 use Rattle.std.proofs.lemmas.Option.{slice_get-map}
 use Rattle.jv_types.specs.ClassData.{class_data_of, member_of}
 use Rattle.code_reader.proofs.Clauses.{code_is, no_code, code_found, code_only, no_body}
@@ -32,7 +31,7 @@ returns-clause-found c =
     let member = member_of c.get-member.result.now in
     let gives =
     subst (λ (read : Result (Body ℕ) Cause). GivesCode c.args.method body_of c.read_body.result read)
-    (stages_are file c.args.method member c.in-Some.bytes.now) c.read_body.ensures in
+    (stages_are file c.args.method member c.in-Some.bytes.now) c.read_body.ensures.body in
     code_found file c.args.method member
     (slice_get-map member_of c.args.class.now.methods.items c.args.method ∙ ap (option_map member_of) c.get-member.ensures)
     c.in-Some.bytes.now c.read_body.result c.requires.profile c.in-Some.ensures.bytes
@@ -44,7 +43,7 @@ returns-clause-only c = λ body its.
     let member = member_of c.get-member.result.now in
     let gives =
     subst (λ (read : Result (Body ℕ) Cause). GivesCode c.args.method body_of c.read_body.result read)
-    (stages_are file c.args.method member c.in-Some.bytes.now) c.read_body.ensures in
+    (stages_are file c.args.method member c.in-Some.bytes.now) c.read_body.ensures.body in
     code_only file c.args.method member
     (slice_get-map member_of c.args.class.now.methods.items c.args.method ∙ ap (option_map member_of) c.get-member.ensures)
     c.in-Some.bytes.now c.read_body.result body c.requires.profile c.in-Some.ensures.bytes its
@@ -56,7 +55,7 @@ returns-clause-refusal c =
     let member = member_of c.get-member.result.now in
     let gives =
     subst (λ (read : Result (Body ℕ) Cause). GivesCode c.args.method body_of c.read_body.result read)
-    (stages_are file c.args.method member c.in-Some.bytes.now) c.read_body.ensures in
+    (stages_are file c.args.method member c.in-Some.bytes.now) c.read_body.ensures.body in
     rw (code_is file c.args.method member
     (slice_get-map member_of c.args.class.now.methods.items c.args.method ∙ ap (option_map member_of) c.get-member.ensures)
     c.in-Some.bytes.now c.in-Some.ensures.bytes)

@@ -1,4 +1,4 @@
-use Rattle.std.proofs.Common.{◌≡◌, ◌∙◌, sym, ap, option_map, Some, arith}
+use Rattle.std.proofs.Common.{◌∙◌, sym, ap, option_map, arith}
 use Rattle.std.proofs.lemmas.List.{length-map, map_push}
 use Rattle.std.proofs.lemmas.Option.{slice_get-map}
 use Rattle.jv_types.specs.ClassData.{class_data_of, member_of, members_of}

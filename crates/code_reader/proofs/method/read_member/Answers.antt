@@ -1,13 +1,11 @@
-use Rattle.std.proofs.Common.{◌≡◌, ℕ, List, ◌∙◌, sym, ap, subst, Option, Some, Result, Ok}
+use Rattle.std.proofs.Common.{ℕ, List, ◌∙◌, sym, ap, Option, Some, Result, Ok}
 use Rattle.std.proofs.lemmas.Result.{err_from_is_err_and}
 use Rattle.jv_model.specs.Fallible.{◌>>=◌}
 use Rattle.jv_model.specs.Refusal.{Cause}
 use Rattle.jv_model.specs.Code.{Body}
 use Rattle.jv_types.specs.ClassData.{class_data_of, member_of}
-use Rattle.jv_types.specs.Reading.{Refuses}
 use Rattle.code_model.specs.CodeReading.{body_at, code_or_none}
 use Rattle.class_reader.proofs.Loops.InFront.{Refuses-first}
-use Rattle.code_reader.specs.Gives.{code_refusal}
 use Rattle.code_reader.proofs.Stages.{stages_are}
 use Rattle.code_reader.proofs.method.read_member.Goals as goal
 
@@ -19,7 +17,7 @@ returns-in_err-read_body-in-Some c =
     rw (error.1, error.2, ← c.in-Some.ensures.bytes)
     (Refuses-first _ (body_at file c.args.method member c.in-Some.bytes.now) _
     (rw (← stages_are file c.args.method member c.in-Some.bytes.now)
-    c.in_err-read_body-in-Some.ensures))
+    c.in_err-read_body-in-Some.ensures.body))
 
 pub returns-in_ok-read_body-in-Some : goal.returns-in_ok-read_body-in-Some
 returns-in_ok-read_body-in-Some c =
@@ -29,4 +27,4 @@ returns-in_ok-read_body-in-Some c =
     (sym c.in-Some.ensures.bytes)
     ∙ ap (λ (read : Result (Body ℕ) Cause). read >>= λ body. Ok (Some body))
     (sym (stages_are file c.args.method member c.in-Some.bytes.now)
-    ∙ c.in_ok-read_body-in-Some.ensures)
+    ∙ c.in_ok-read_body-in-Some.ensures.body)

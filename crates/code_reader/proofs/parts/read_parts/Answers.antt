@@ -19,5 +19,5 @@ pub returns-in-Err-clause-parts : goal.returns-in-Err-clause-parts
 returns-in-Err-clause-parts c =
     let pool = pool_of c.args.pool.now.items in
     rw (parts_are pool c.args.method c.args.bytes.now)
-    (c.shape_error.ensures c.args.method (whole_parts_at pool c.args.method c.args.bytes.now)
+    (c.shape_error.ensures.shape c.args.method (whole_parts_at pool c.args.method c.args.bytes.now)
     c.in-Err.ensures.parts)

@@ -1,4 +1,4 @@
-use Rattle.std.proofs.Common.{◌≡◌, ◌∙◌, ap}
+use Rattle.std.proofs.Common.{◌∙◌, ap}
 use Rattle.std.specs.Prelude.{is_some}
 use Rattle.jv_types.specs.Instructions.{starts_at}
 use Rattle.code_reader.proofs.Starts.{position_is_any}

@@ -12,5 +12,5 @@ returns-clause-ok c =
 pub returns-clause-number : goal.returns-clause-number
 returns-clause-number c =
     let stored = c.in_ok-number.ensures.stored in
-    let copied : c.extend_from_slice.new.self.items ≡ c.args.text.now.items = search rules in
+    let copied : c.extend_from_slice.new.self.items ≡ c.args.text.now = search rules in
     slice_get-view (λ v. v.items) c.insert_full.new.self.keys c.in_ok-number.number stored.0 _ _ stored.1 stored.2 copied

@@ -2,7 +2,7 @@ use Rattle.std.proofs.Common.{◌≡◌, true, List, ◌+◌, ◌≤◌, length,
 use Rattle.jv_types.specs.declared.number.ClassNo.{ClassNo}
 use Rattle.class_names.specs.declared.signatures.Signature.{Signature}
 use Rattle.class_world.specs.MemberTable.{is_order, first_with}
-use Rattle.class_world.proofs.Orders.{order_seen, declared_seen, order_inside}
+use Rattle.class_world.proofs.StoredOrders.{order_seen, declared_seen, order_inside}
 use Rattle.class_world.proofs.member_table.MemberTable.find.Goals as goal
 
 pub first_declaring-requires : goal.first_declaring-requires

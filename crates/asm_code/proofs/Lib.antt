@@ -1,0 +1,5 @@
+pub mod LabelLemmas
+pub mod PlaceLemmas
+mod SizeLemmas
+pub mod FaultLemmas
+mod NameLemmas

@@ -1,0 +1,8 @@
+use Rattle.jv_types.specs.ClassData.{pool_of}
+use Rattle.class_faults.proofs.Appending.{code_added}
+use Rattle.class_faults.proofs.uses.push_code.Goals as goal
+
+pub returns : goal.returns
+returns c =
+    code_added (pool_of c.args.pool.now) c.args.body.now _ _ _ _ _ _ _ c.as_slice.ensures c.as_slice-2.ensures c.as_slice-3.ensures
+    c.in_ok-push_instructions.ensures c.in_ok-push_handlers.ensures c.in_ok-push_frames.ensures

@@ -1,0 +1,16 @@
+-- How instructions stand in code that runs.
+use Rattle.std.specs.Prelude.{◌≡◌, ◌+◌, ◌<◌, ◌≤◌, ℕ, List, [], ◌∷◌}
+use Rattle.jv_model.specs.Limits.{most_frame_words}
+use Rattle.jv_model.specs.Code.{Placed, Body}
+
+-- they follow each other, from a place on
+abbrev pub Follows : {A : Type 0} → ℕ → List (Placed A) → Type 0
+Follows place [] = Unit {0}
+Follows place (placed ∷ others) =
+    (placed.pc ≡ place) × (placed.pc < placed.next) × Follows placed.next others
+
+-- Code that can run: its instructions follow each other, and the words of its frame are no more
+-- than a frame's may be.
+pub record CanRun {A : Type 0} (code : Body A) : Type 0 where
+  pub order : Follows 0 code.instructions
+  pub words : code.max_locals + code.max_stack ≤ most_frame_words

@@ -1,0 +1,202 @@
+//! Each local family at its edges. The numbers are those that `java` prints.
+
+use jv_types::{Conversion, Insn, Instruction, List, Shift, StackForm};
+use jv_values::Value;
+use local_steps::local_step;
+use std::test::Fail;
+
+/// The word that a shift of ints leaves.
+#[tactic(auto, unfolding(machine_model::specs::LocalStep::local_step_of, jv_values::specs::Values::operands_in))]
+fn int_shifted(shift: Shift, a: i32, distance: i32) -> Value {
+    let insn = Insn {
+        pc: 0,
+        next: 1,
+        instruction: Instruction::IntShift(shift),
+    };
+    let mut stack = [Value::Int(a), Value::Int(distance)];
+    let _next = local_step(&insn, &[], &mut [], &mut stack, 2);
+    stack[0]
+}
+
+/// The word that a shift of a long leaves.
+#[tactic(auto, unfolding(machine_model::specs::LocalStep::local_step_of, jv_values::specs::Values::operands_in))]
+fn long_shifted(shift: Shift, a: i64, distance: i32) -> Value {
+    let insn = Insn {
+        pc: 0,
+        next: 1,
+        instruction: Instruction::LongShift(shift),
+    };
+    let mut stack = [Value::Long(a), Value::Half, Value::Int(distance)];
+    let _next = local_step(&insn, &[], &mut [], &mut stack, 3);
+    stack[0]
+}
+
+/// The word that `lcmp` leaves.
+#[tactic(auto, unfolding(machine_model::specs::LocalStep::local_step_of, jv_values::specs::Values::operands_in))]
+fn compared(a: i64, b: i64) -> Value {
+    let insn = Insn {
+        pc: 0,
+        next: 1,
+        instruction: Instruction::CompareLongs,
+    };
+    let mut stack = [Value::Long(a), Value::Half, Value::Long(b), Value::Half];
+    let _next = local_step(&insn, &[], &mut [], &mut stack, 4);
+    stack[0]
+}
+
+/// The words that `dup2_x2` leaves of four.
+#[tactic(auto, unfolding(machine_model::specs::LocalStep::local_step_of, jv_values::specs::Values::operands_in))]
+fn dup2_x2(d: Value, c: Value, b: Value, a: Value) -> [Value; 6] {
+    let insn = Insn {
+        pc: 0,
+        next: 1,
+        instruction: Instruction::Stack(StackForm::DuplicateTwoX2),
+    };
+    let mut stack = [d, c, b, a, Value::Null, Value::Null];
+    let _next = local_step(&insn, &[], &mut [], &mut stack, 4);
+    stack
+}
+
+/// The word that `i2b` leaves.
+#[tactic(auto, unfolding(machine_model::specs::LocalStep::local_step_of, jv_values::specs::Values::operands_in))]
+fn to_byte(n: i32) -> Value {
+    let insn = Insn {
+        pc: 0,
+        next: 1,
+        instruction: Instruction::Convert(Conversion::IntToByte),
+    };
+    let mut stack = [Value::Int(n)];
+    let _next = local_step(&insn, &[], &mut [], &mut stack, 1);
+    stack[0]
+}
+
+/// The word that `i2c` leaves.
+#[tactic(auto, unfolding(machine_model::specs::LocalStep::local_step_of, jv_values::specs::Values::operands_in))]
+fn to_char(n: i32) -> Value {
+    let insn = Insn {
+        pc: 0,
+        next: 1,
+        instruction: Instruction::Convert(Conversion::IntToChar),
+    };
+    let mut stack = [Value::Int(n)];
+    let _next = local_step(&insn, &[], &mut [], &mut stack, 1);
+    stack[0]
+}
+
+/// The word that `l2i` leaves.
+#[tactic(auto, unfolding(machine_model::specs::LocalStep::local_step_of, jv_values::specs::Values::operands_in))]
+fn to_int(n: i64) -> Value {
+    let insn = Insn {
+        pc: 0,
+        next: 1,
+        instruction: Instruction::Convert(Conversion::LongToInt),
+    };
+    let mut stack = [Value::Long(n), Value::Half];
+    let _next = local_step(&insn, &[], &mut [], &mut stack, 2);
+    stack[0]
+}
+
+/// Where a `tableswitch` from -1 on goes, whose targets are these.
+#[tactic(auto, unfolding(machine_model::specs::LocalStep::local_step_of, jv_values::specs::Values::operands_in))]
+fn switched(targets: List<u32>, key: i32) -> Option<u32> {
+    let insn = Insn {
+        pc: 0,
+        next: 24,
+        instruction: Instruction::Tableswitch {
+            otherwise: 99,
+            low: -1,
+            targets,
+        },
+    };
+    let mut stack = [Value::Int(key)];
+    local_step(&insn, &[], &mut [], &mut stack, 1)?.target
+}
+
+#[test]
+fn shifts(rt: HostRuntime) {
+    for (shift, a, distance, word) in [
+        (Shift::Left, 1, 31, i32::MIN),
+        (Shift::Left, 3, 32, 3),
+        (Shift::Left, 1, -1, i32::MIN),
+        (Shift::Right, i32::MIN, 31, -1),
+        (Shift::RightUnsigned, i32::MIN, 31, 1),
+        (Shift::RightUnsigned, -1, 32, -1),
+        (Shift::RightUnsigned, -1, -1, 1),
+    ] {
+        assert_eq!(rt; int_shifted(shift, a, distance), Value::Int(word));
+    }
+    for (shift, a, distance, word) in [
+        (Shift::Left, 1, 63, i64::MIN),
+        (Shift::Left, 1, 32, 4_294_967_296),
+        (Shift::Right, i64::MIN, 64, i64::MIN),
+        (Shift::RightUnsigned, i64::MIN, 63, 1),
+        (Shift::RightUnsigned, -1, -1, 1),
+    ] {
+        assert_eq!(rt; long_shifted(shift, a, distance), Value::Long(word));
+    }
+}
+
+#[test]
+fn comparisons(rt: HostRuntime) {
+    for (a, b, word) in [
+        (i64::MIN, i64::MAX, -1),
+        (i64::MAX, i64::MIN, 1),
+        (4_294_967_296, 4_294_967_296, 0),
+    ] {
+        assert_eq!(rt; compared(a, b), Value::Int(word));
+    }
+}
+
+#[test]
+fn groups(rt: HostRuntime) {
+    let (one, two, three) = (Value::Int(1), Value::Int(2), Value::Int(3));
+    let (four, half) = (Value::Int(4), Value::Half);
+    let (long, wide) = (Value::Long(5), Value::Long(6));
+    for (words, after) in [
+        (
+            [one, two, three, four],
+            [three, four, one, two, three, four],
+        ),
+        ([one, two, long, half], [long, half, one, two, long, half]),
+        ([long, half, one, two], [one, two, long, half, one, two]),
+        (
+            [long, half, wide, half],
+            [wide, half, long, half, wide, half],
+        ),
+    ] {
+        let [d, c, b, a] = words;
+        assert_eq!(rt; dup2_x2(d, c, b, a), after);
+    }
+}
+
+#[test]
+fn conversions(rt: HostRuntime) {
+    for (n, byte, unit) in [
+        (127, 127, 127),
+        (128, -128, 128),
+        (-129, 127, 65_407),
+        (65_536, 0, 0),
+    ] {
+        assert_eq!(rt; to_byte(n), Value::Int(byte));
+        assert_eq!(rt; to_char(n), Value::Int(unit));
+    }
+    for (n, low) in [(2_147_483_648, i32::MIN), (-1, -1), (i64::MIN, 0)] {
+        assert_eq!(rt; to_int(n), Value::Int(low));
+    }
+}
+
+#[test]
+fn switches(rt: HostRuntime) -> Result<(), Fail> {
+    for (key, target) in [
+        (i32::MIN, 99),
+        (-2, 99),
+        (-1, 24),
+        (1, 40),
+        (2, 99),
+        (i32::MAX, 99),
+    ] {
+        let targets = List::from_slice(rt.alloc(), &[24, 32, 40])?;
+        assert_eq!(rt; switched(targets, key), Some(target));
+    }
+    Ok(())
+}

@@ -1,0 +1,7 @@
+pub mod FaultLemmas
+pub mod BlockLemmas
+pub mod TextLemmas
+pub mod StatementLemmas
+pub mod KindLemmas
+pub mod LineLemmas
+pub mod LawLemmas

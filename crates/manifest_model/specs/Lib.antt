@@ -1,0 +1,6 @@
+-- what items are
+pub mod Items
+-- lines
+pub mod ManifestLines
+-- the whole
+pub mod Manifest

@@ -1,0 +1,4 @@
+pub mod StepLemmas
+pub mod BlockLemmas
+pub mod StatementLemmas
+pub mod ManifestLemmas

@@ -1,0 +1,5 @@
+use Rattle.start_laws.proofs.Started as laws
+use Rattle.start_laws.proofs.start.start_conforms.Goals as goal
+
+pub returns : goal.returns
+returns c = laws.start_conforms

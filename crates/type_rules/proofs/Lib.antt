@@ -1,0 +1,4 @@
+pub mod Classes
+pub mod Components
+pub mod Frames
+pub mod Assigned
