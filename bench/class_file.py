@@ -21,10 +21,11 @@ def attribute(name, contents):
     return u2(name) + u4(len(contents)) + contents
 
 
-def write(path, pool, interfaces, fields, methods):
+def write(path, pool, interfaces, fields, methods, flags=33):
     """Writes a class of the entry 2 that extends that of the entry 4, and prints its length."""
     whole = b"".join([
-        u4(0xCAFEBABE), u2(0, 52, len(pool) + 1), *pool, u2(33, 2, 4, len(interfaces), *interfaces),
+        u4(0xCAFEBABE), u2(0, 52, len(pool) + 1), *pool,
+        u2(flags, 2, 4, len(interfaces), *interfaces),
         u2(len(fields)), *fields, u2(len(methods)), *methods, u2(0),
     ])
     assert len(whole) <= LIMIT, len(whole)

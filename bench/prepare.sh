@@ -33,3 +33,13 @@ milliseconds() {
   done
   echo "$least"
 }
+# The same of the time that the processor took for it.
+processor_milliseconds() {
+  local least= user system took TIMEFORMAT='%3U %3S'
+  for _ in 1 2 3 4 5; do
+    read -r user system < <({ time "$@" > "$folder/said"; } 2>&1)
+    took=$((10#${user/./} + 10#${system/./}))
+    if [ -z "$least" ] || [ "$took" -lt "$least" ]; then least=$took; fi
+  done
+  echo "$least"
+}

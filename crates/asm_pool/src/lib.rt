@@ -13,3 +13,5 @@ pub mod constants;
 pub mod fill;
 pub mod need;
 pub mod needs;
+#[cfg(test)]
+mod tests;

@@ -1,1 +1,6 @@
 pub mod Appending
+pub mod Firsts
+mod Supported
+pub mod WrongMethods
+pub mod Least
+mod TextUses

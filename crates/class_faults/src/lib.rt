@@ -1,11 +1,28 @@
-//! The entries of its constant pool that a class uses, and as what (JVMS 4.1, 4.5 to 4.7, 6.5): what
-//! linking looks at when it tells what is wrong with a class.
+//! What is wrong with classes by themselves when a program is linked (JVMS 4.1, 4.3, 4.6): their
+//! names, the descriptors and array types that they use, and the kinds of their methods.
 //!
-//! It stands on `jv_types`. The contract above it is that of `list_uses`: it lists the uses that the
-//! definitions list, in their order. Only want of memory may come instead. Nothing links classes
-//! with it yet.
+//! It stands on `class_world` for texts, on `descriptor_types` for what descriptors spell, and on
+//! `link_model`, whose definitions say what is wrong. The contract above it is that of three passes
+//! over the classes in order: `first_reserved`, `first_wrong_descriptor` and `first_wrong_method`
+//! each give the first fault of their kind. `list_uses` lists the entries of its constant pool that
+//! a class uses, and as what, in the order of its file. Only want of memory may come instead.
 #![tactic(auto)]
 
+mod descriptors;
+mod flags;
+mod methods;
+mod names;
+mod reserved;
 mod uses;
 
+pub use descriptors::{first_wrong_descriptor, lesser};
+pub use flags::{
+    ACC_ABSTRACT, ACC_FINAL, ACC_INTERFACE, ACC_NATIVE, ACC_PRIVATE, ACC_STATIC, has_flag,
+};
+pub use methods::first_wrong_method;
+pub use names::{class_name_at, name_of};
+pub use reserved::first_reserved;
 pub use uses::{Use, Used, list_uses};
+
+#[cfg(test)]
+mod tests;

@@ -16,7 +16,7 @@ use jv_types::{
 use std::alloc::Global;
 
 /// As what an entry is used.
-#[derive(Clone, Copy, Debug, PartialEq, Eq)]
+#[derive(Clone, Copy, Debug, PartialEq, Eq, Hash)]
 pub enum Use {
     Superclass,
     Interface,
@@ -33,7 +33,7 @@ pub enum Use {
 }
 
 /// An entry by its index, and as what it is used.
-#[derive(Clone, Copy, Debug, PartialEq, Eq)]
+#[derive(Clone, Copy, Debug, PartialEq, Eq, Hash)]
 pub struct Used {
     pub index: u16,
     pub use_as: Use,

@@ -1,6 +1,7 @@
 -- Searches through a list, and through the list of what its items have.
-use Rattle.std.proofs.Common.{◌≡◌, ℕ, ◌+◌, Bool, true, false, not, cond, ◌||◌, List, [], ◌∷◌, Option, Some, None, length, map, position, nat_lt, is_some, bytes_eq, slice_get, option_map, if◌then◌else◌, ◌++◌, get_or, ap, sym, ◌∙◌, refl}
-use Rattle.std.specs.List.{list_any, prefix_len, position_or_len, IsDistinct, AllByRecursion}
+use Rattle.std.proofs.Common.{◌≡◌, ℕ, ◌+◌, Bool, true, false, not, cond, ◌||◌, List, [], ◌∷◌, Option, Some, None, map, position, nat_lt, bytes_eq, slice_get, option_map, if◌then◌else◌, ◌++◌, get_or, ap, sym, ◌∙◌, refl, true≢false}
+use Rattle.std.proofs.lemmas.Bool.{or_from, false_from_ne_true}
+use Rattle.std.specs.List.{list_any, prefix_len, IsDistinct, AllByRecursion}
 use Rattle.std.proofs.lemmas.List.{length-map, map-append}
 use Rattle.std.proofs.lemmas.List.Quantifiers.{position-Some}
 use Rattle.std.proofs.lemmas.Option.{slice_get-get_or, slice_get-map}
@@ -84,3 +85,27 @@ pub slice_get-position : (texts : List (List ℕ)) (text : List ℕ) (n : ℕ)
 slice_get-position texts text n found =
     let at = position-Some (bytes_eq text) texts n [] (sym found) in
     slice_get-get_or texts n [] at.0 ∙ ap Some (sym ((bytes_eq-Decides text (get_or texts n [])).0 at.1))
+
+-- ---- texts that differ
+
+stands_in : {A : Type 0} (P : A → Type 0) (front : List A) (x : A) (rest : List A) → AllByRecursion P (front ++ x ∷ rest) → P x
+stands_in P [] x rest all = all.0
+stands_in P (y ∷ front) x rest all = stands_in P front x rest all.1
+
+differ_back : (a b : List ℕ) → bytes_eq a b ≡ false → bytes_eq b a ≡ false
+differ_back a b differ =
+    false_from_ne_true (bytes_eq b a) (λ same. true≢false (sym ((bytes_eq-Decides a b).1 (sym ((bytes_eq-Decides b a).0 same))) ∙ differ))
+
+-- a text that differs from all others isn't among those before it
+pub none_before : (front : List (List ℕ)) (text : List ℕ) (rest : List (List ℕ)) → IsDistinct bytes_eq (front ++ text ∷ rest)
+    → list_any (bytes_eq text) front ≡ false
+unfolding IsDistinct
+none_before [] text rest apart = refl
+none_before (t ∷ front) text rest apart =
+    or_from (bytes_eq text t) (list_any (bytes_eq text) front)
+    (differ_back t text (stands_in (λ y. bytes_eq t y ≡ false) front text rest apart.0)) (none_before front text rest apart.1)
+
+-- so it's added behind them
+pub with_item-apart : (front : List (List ℕ)) (text : List ℕ) (rest : List (List ℕ)) → IsDistinct bytes_eq (front ++ text ∷ rest)
+    → with_item bytes_eq front text ≡ front ++ text ∷ []
+with_item-apart front text rest apart = ap (λ b. if b then front else front ++ text ∷ []) (none_before front text rest apart)

@@ -42,6 +42,17 @@ impl Names {
         }
     }
 
+    /// Equal texts with the same numbers, unless there is no memory for them.
+    pub fn copy(&self, alloc: Global) -> Result<Names, NoMemory>
+        ensures { IfOk result (λ copy. copy ≡ self.now) }
+    {
+        let mut copy = Names::new(alloc);
+        for text in self.texts.as_slice() {
+            copy.add(alloc, text.as_slice())?;
+        }
+        Ok(copy)
+    }
+
     /// How many there are. No two are equal.
     pub fn len(&self) -> u32
         ensures len { result ≡ length self.now }

@@ -16,6 +16,9 @@ fn names_have_their_numbers(rt: HostRuntime) -> Result<(), Fail> {
     assert_eq!(rt; names.len(), 3);
     assert_eq!(rt; names.number_of(&[]), Some(2));
     assert_eq!(rt; names.number_of(units(rt.alloc(), "ru")?.as_slice()), None);
+    let copy = names.copy(rt.alloc())?;
+    assert_eq!(rt; copy.len(), 3);
+    assert_eq!(rt; copy.number_of(&[]), Some(2));
     Ok(())
 }
 

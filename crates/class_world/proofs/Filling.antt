@@ -20,7 +20,7 @@ use Rattle.class_world.specs.declared.class_info.Origin.{Origin}
 use Rattle.class_world.specs.declared.class_info.Origin.TheVariants.{Boot, Program}
 use Rattle.class_world.specs.declared.signatures.Declared.{Declared}
 use Rattle.class_world.specs.MemberTable.{Members, is_order, IsWithin}
-use Rattle.class_world.specs.World.{class_of_origin, names_of_infos, world_of_infos, names_of, numbers_of, AreInfos, orders_of, HaveMembersOnce, field_signature, method_signature, spelled, IsTable, IsWorld}
+use Rattle.class_world.specs.World.{class_of_origin, names_of_infos, world_of_infos, names_of, numbers_of, AreInfos, orders_of, IsAcyclic, HaveMembersOnce, field_signature, method_signature, spelled, IsTable, IsWorld}
 use Rattle.class_world.specs.Signatures.{Pair, same_pair, member_pair, field_pairs, method_pairs, has_members_once, SpellsAll, GivesDeclared}
 use Rattle.class_world.proofs.LookUps.{numbers_inside}
 use Rattle.class_world.proofs.Upwards.{list_all-map}
@@ -139,13 +139,13 @@ module _ (infos : List ClassInfo) where
     method_count = spelled_count declared.methods.items (λ (i : ClassInfo). method_pairs i.origin) gives.methods
 
     pub is_filled : (names : List (List ℕ)) (fields methods : Members) → AreInfos infos → names ≡ names_of (world_of_infos infos)
-        → (field_rows method_rows : List (List ClassNo))
+        → IsAcyclic (world_of_infos infos) → HaveMembersOnce (world_of_infos infos) → (field_rows method_rows : List (List ClassNo))
         → field_rows ≡ orders_of (world_of_infos infos) (field_order (world_of_infos infos))
         → method_rows ≡ orders_of (world_of_infos infos) (method_order (world_of_infos infos))
         → fields ≡ record { orders = field_rows; declared = declared.fields.items }
         → methods ≡ record { orders = method_rows; declared = declared.methods.items }
         → IsWorld infos names texts fields methods
-    is_filled names fields methods are names_are field_rows method_rows field_orders method_orders fields_is methods_is =
+    is_filled names fields methods are names_are acyclic once field_rows method_rows field_orders method_orders fields_is methods_is =
         let world = world_of_infos infos in
         record {
           each_info = are.each_info;
@@ -162,4 +162,6 @@ module _ (infos : List ClassInfo) where
             declared = gives.methods.are ∙ methods_declared;
             within = gives.methods.within;
           });
+          acyclic = acyclic;
+          once = once;
         }

@@ -12,3 +12,4 @@ pub mod MethodOrders
 pub mod Spelling
 pub mod Declaring
 pub mod Filling
+pub mod Parts

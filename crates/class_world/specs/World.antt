@@ -120,6 +120,8 @@ pub record IsWorld (infos : List ClassInfo) (names texts : List (List ℕ)) (fie
       (λ (c : model.Class). map field_signature c.fields) fields
   pub method_table : IsTable (world_of_infos infos) texts (method_order (world_of_infos infos))
       (λ (c : model.Class). map method_signature c.methods) methods
+  pub acyclic : IsAcyclic (world_of_infos infos)
+  pub once : HaveMembersOnce (world_of_infos infos)
 
 -- ---- places
 

@@ -1,6 +1,10 @@
 //! The classes of a world.
 
-use jv_types::{BootClass, ClassNo, List, Loaded, Text};
+ghost use Rattle.std.specs.Prelude.{◌≡◌, map, IfOk};
+ghost use Rattle.class_world.specs.Parts.{source_of, parts_of};
+
+use jv_types::{BootClass, ClassNo, List, Loaded, NoMemory, Text};
+use std::alloc::Global;
 
 /// A class of a world. Its supertypes are numbers.
 #[derive(Debug, Drop)]
@@ -26,4 +30,41 @@ pub enum Origin {
 pub struct FieldPlace {
     pub class: ClassNo,
     pub index: u32,
+}
+
+impl Origin {
+    /// An equal origin, unless there is no memory for it.
+    fn copy(&self, alloc: Global) -> Result<Origin, NoMemory>
+        ensures { IfOk result (λ copy. source_of copy ≡ source_of self.now) }
+    {
+        match self {
+            Origin::Boot(class) => Ok(Origin::Boot(class.copy(alloc)?)),
+            Origin::Program(loaded) => Ok(Origin::Program(loaded.copy(alloc)?)),
+        }
+    }
+}
+
+impl ClassInfo {
+    /// An equal class, unless there is no memory for it.
+    fn copy(&self, alloc: Global) -> Result<ClassInfo, NoMemory>
+        ensures { IfOk result (λ copy. parts_of copy ≡ parts_of self.now) }
+    {
+        Ok(ClassInfo {
+            name: self.name.copy(alloc)?,
+            superclass: self.superclass,
+            interfaces: self.interfaces.copy(alloc)?,
+            origin: self.origin.copy(alloc)?,
+        })
+    }
+}
+
+/// Equal classes, unless there is no memory for them.
+pub fn copy_classes(alloc: Global, classes: &[ClassInfo]) -> Result<List<ClassInfo>, NoMemory>
+    ensures { IfOk result (λ copies. map parts_of copies.items ≡ map parts_of classes.now) }
+{
+    let mut copies = List::new(alloc);
+    for class in classes {
+        copies.push(class.copy(alloc)?)?;
+    }
+    Ok(copies)
 }

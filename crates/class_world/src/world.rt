@@ -5,7 +5,7 @@ ghost use Rattle.world_model.specs.World.{declared_method};
 ghost use Rattle.world_model.specs.Supertypes.{field_order, method_order, is_sub as is_sub_of};
 ghost use Rattle.world_model.specs.LookUp.{find_field as field_found, find_method as method_found};
 
-use crate::class_info::{ClassInfo, FieldPlace};
+use crate::class_info::{ClassInfo, FieldPlace, copy_classes};
 use crate::member_table::MemberTable;
 use crate::orders::{field_orders, method_orders};
 use crate::search::{is_among, signature};
@@ -65,6 +65,16 @@ impl World {
             names,
             texts,
         })
+    }
+
+    /// An equal world, unless there is no memory for it.
+    pub fn copy(&self, alloc: Global) -> Result<World, NoMemory>
+        ensures { IfOk result (λ copy. copy ≡ self.now) }
+    {
+        let classes = copy_classes(alloc, self.classes.as_slice())?;
+        let names = self.names.copy(alloc)?;
+        let world = World::of(alloc, names, classes)?;
+        Ok(world)
     }
 
     /// The number of classes.

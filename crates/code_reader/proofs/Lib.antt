@@ -7,4 +7,5 @@ pub mod Starts
 pub mod FrameLists
 pub mod Stages
 pub mod Clauses
+pub mod FirstMethod
 mod Nearness

@@ -1,6 +1,6 @@
 -- What stands in front of the exception table of a Code attribute. Nothing of it is kept, so it
 -- takes no memory.
-use Rattle.std.specs.Prelude.{◌≡◌, ℕ, List, [], Option, Some, None, Result, Err, unwrap_or, slice_get, MatchResult}
+use Rattle.std.specs.Prelude.{◌≡◌, ℕ, List, [], Option, Some, None, Result, Err, unwrap_or, option_and_then, slice_get, MatchResult}
 use Rattle.jv_model.specs.Fallible.{where_true, ◌>>=◌}
 use Rattle.jv_model.specs.Refusal.{Cause, wrong_shape}
 use Rattle.jv_model.specs.ClassData.{Member, ClassData}
@@ -44,3 +44,19 @@ IsPartRefusal other = Unit {0}
 abbrev pub IsEarly : {X E : Type 0} → (E → Type 0) → Result (ℕ × Input) Cause → Result X E → Type 0
 IsEarly is_refusal head answer =
     (cause : Cause) → head ≡ Err cause → MatchResult answer (λ _. ⊥) is_refusal
+
+-- ---- the first method of a class
+
+-- the bytes of its Code attribute, where there are a first method and an attribute
+abbrev pub first_bytes : ClassData → Option (List ℕ)
+first_bytes file = option_and_then (λ (method : Member). code_bytes file method)
+    (slice_get file.methods 0)
+
+abbrev pub IsMethodRefusal : ℕ × CodeError → Type 0
+IsMethodRefusal error = IsRefusal error.1
+
+-- where the head of the attribute with these bytes is refused, the answer is a refusal
+abbrev pub IsEarlyInMethod :
+    {X E : Type 0} → (E → Type 0) → ℕ → Option (List ℕ) → Result X E → Type 0
+IsEarlyInMethod is_refusal index bytes answer =
+    (run : List ℕ) → bytes ≡ Some run → IsEarly is_refusal (head_at index (whole_of run)) answer

@@ -11,7 +11,7 @@ ghost use Rattle.jv_types.specs.ClassData.{class_data_of, member_of};
 ghost use Rattle.jv_types.specs.Code.{body_of};
 ghost use Rattle.jv_types.specs.Loaded.{code_of};
 ghost use Rattle.code_reader.specs.Gives.{GivesCode};
-ghost use Rattle.code_reader.specs.Head.{head_of, IsEarly, IsRefusal};
+ghost use Rattle.code_reader.specs.Head.{head_of, first_bytes, IsEarly, IsEarlyInMethod, IsRefusal, IsMethodRefusal};
 ghost use Rattle.code_reader.specs.Method.{IsCodeOf, GivesCodes, Codes, codes_in, codes_of};
 
 use crate::body::read_body;
@@ -75,8 +75,10 @@ fn read_member(
     method: u32,
     member: &Member,
 ) -> Result<Option<CodeBody>, CodeError>
-    ensures { GivesCode method code_of result (code_or_none (class_data_of class.now) method
+    ensures code { GivesCode method code_of result (code_or_none (class_data_of class.now) method
         (member_of member.now) (code_bytes (class_data_of class.now) (member_of member.now))) }
+    ensures early { IsEarlyInMethod IsRefusal method
+        (code_bytes (class_data_of class.now) (member_of member.now)) result }
 {
     match code_bytes(class, member) {
         Some(bytes) => Ok(Some(read_body(alloc, class, method, member, bytes)?)),
@@ -86,7 +88,9 @@ fn read_member(
 
 /// The code of each method.
 fn read_codes(alloc: Global, class: &ClassData) -> Result<List<Option<CodeBody>>, (u32, CodeError)>
-    ensures { GivesCodes (λ codes. codes_of codes.items) result (load_of (class_data_of class.now)) }
+    ensures codes { GivesCodes (λ codes. codes_of codes.items) result
+        (load_of (class_data_of class.now)) }
+    ensures early { IsEarlyInMethod IsMethodRefusal 0 (first_bytes (class_data_of class.now)) result }
 {
     let mut codes = List::new(alloc);
     for index in 0..class.methods.len() {
@@ -103,25 +107,29 @@ fn read_codes(alloc: Global, class: &ClassData) -> Result<List<Option<CodeBody>>
 }
 
 /// A class with the code of its methods, its `base` 0. The error is the first one in the order of
-/// the methods, with the method's index; then the file is given up.
+/// the methods, with the method's index; then the file is given up. Behind the first method's head
+/// memory may be wanted.
 pub fn load_class(alloc: Global, file: ClassData) -> Result<Loaded, (u32, CodeError)>
-    requires { IsInProfile (class_data_of file) }
-
     // The file is given back in it.
     ensures file { IfOk result (λ loaded. class_data_of loaded.file ≡ class_data_of file) }
     ensures base { IfOk result (λ loaded. loaded.base ≡ 0) }
 
-    // What is read is spelled so.
-    ensures found { IfOk result (λ loaded. AllZip (HasCode (class_data_of file))
+    // What is read of a class file's data is spelled so.
+    ensures found { IsInProfile (class_data_of file)
+        → IfOk result (λ loaded. AllZip (HasCode (class_data_of file))
         (class_data_of file).methods (codes_in loaded)) }
 
     // What is spelled so is read, unless memory runs out.
-    ensures only { (codes : Codes)
+    ensures only { IsInProfile (class_data_of file) → (codes : Codes)
         → AllZip (HasCode (class_data_of file)) (class_data_of file).methods codes
         → GivesCodes codes_in result (Ok codes) }
 
     // Which refusal it is, and of which method.
     ensures refusal { GivesCodes codes_in result (load_of (class_data_of file)) }
+
+    // What is wrong in front of the first method's exception table is told, however little memory
+    // there is.
+    ensures early { IsEarlyInMethod IsMethodRefusal 0 (first_bytes (class_data_of file)) result }
 {
     match read_codes(alloc, &file) {
         Ok(codes) => Ok(Loaded {

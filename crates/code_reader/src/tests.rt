@@ -48,7 +48,7 @@ const SAMPLE: [u8; 124] = *b"\xca\xfe\xba\xbe\0\0\0\x34\0\x0d\
 /// and the attributes, each after its count.
 type Case = (&'static [u8], Result<u32, CodeError>);
 
-const CASES: [Case; 54] = [
+const CASES: [Case; 77] = [
     // return, and the attribute ending early, and late.
     (b"\0\0\0\x01\0\0\0\x01\xb1\0\0\0\0", Ok(1)),
     (
@@ -59,14 +59,21 @@ const CASES: [Case; 54] = [
         b"\0\0\0\x01\0\0\0\x01\xb1\0\0\0\0\0",
         Err(CodeError::Shape { at: 13 }),
     ),
+    // More bytes of code than there may be.
+    (b"\0\0\0\x01\0\x01\0\0", Err(CodeError::Shape { at: 4 })),
     // No code.
     (
         b"\0\0\0\x01\0\0\0\0\0\0\0\0",
         Err(CodeError::Shape { at: 4 }),
     ),
-    // 4,095 and 2 words.
+    // 4,095 words and one, and two, also in front of no opcode.
+    (b"\x0f\xff\0\x01\0\0\0\x01\xb1\0\0\0\0", Ok(1)),
     (
         b"\x0f\xff\0\x02\0\0\0\x01\xb1\0\0\0\0",
+        Err(CodeError::FrameTooBig { words: 4_097 }),
+    ),
+    (
+        b"\x0f\xff\0\x02\0\0\0\x01\xca\0\0\0\0",
         Err(CodeError::FrameTooBig { words: 4_097 }),
     ),
     // No opcode, fadd, a cut bipush, and newarray of floats, each behind a nop.
@@ -86,6 +93,16 @@ const CASES: [Case; 54] = [
         b"\0\0\0\x01\0\0\0\x03\0\xbc\x06\0\0\0\0",
         Err(CodeError::Unsupported { pc: 1 }),
     ),
+    // fadd in front of no opcode, jsr_w without its offset, and newarray of longs.
+    (
+        b"\0\0\0\x01\0\0\0\x02\x62\xca\0\0\0\0",
+        Err(CodeError::Unsupported { pc: 0 }),
+    ),
+    (
+        b"\0\0\0\x01\0\0\0\x01\xc9\0\0\0\0",
+        Err(CodeError::Unsupported { pc: 0 }),
+    ),
+    (b"\0\0\0\x01\0\0\0\x02\xbc\x0b\0\0\0\0", Ok(1)),
     // wide nop, and wide ret.
     (
         b"\0\0\0\x01\0\0\0\x02\xc4\0\0\0\0\0",
@@ -129,6 +146,15 @@ const CASES: [Case; 54] = [
         b"\0\0\0\0\0\0\0\x05\xc4\x84\0\0\x01\0\0\0\0",
         Err(CodeError::Operand { pc: 0 }),
     ),
+    // wide of no opcode, and of nothing.
+    (
+        b"\0\0\0\0\0\0\0\x02\xc4\xca\0\0\0\0",
+        Err(CodeError::Operand { pc: 0 }),
+    ),
+    (
+        b"\0\0\0\0\0\0\0\x01\xc4\0\0\0\0",
+        Err(CodeError::Operand { pc: 0 }),
+    ),
     // tableswitch behind a nop: two bytes of padding, to itself, and for 0 to the nop.
     (
         b"\0\0\0\0\0\0\0\x14\0\xaa\xff\x7f\0\0\0\0\0\0\0\0\0\0\0\0\xff\xff\xff\xff\0\0\0\0",
@@ -157,6 +183,15 @@ const CASES: [Case; 54] = [
         \0\x01\0\0\0\0\0\0\0\0",
         Ok(1),
     ),
+    // No padding, and fewer keys than none.
+    (
+        b"\0\0\0\0\0\0\0\x02\xab\0\0\0\0\0",
+        Err(CodeError::Operand { pc: 0 }),
+    ),
+    (
+        b"\0\0\0\0\0\0\0\x0c\xab\0\0\0\0\0\0\0\xff\xff\xff\xff\0\0\0\0",
+        Err(CodeError::Operand { pc: 0 }),
+    ),
     // Keys that don't rise, and a pair that isn't whole.
     (
         b"\0\0\0\0\0\0\0\x1c\xab\0\0\0\0\0\0\0\0\0\0\x02\0\0\0\x01\0\0\0\0\0\0\0\x01\0\0\0\
@@ -181,6 +216,21 @@ const CASES: [Case; 54] = [
     (
         b"\0\0\0\0\0\0\0\x02\x12\x02\0\0\0\0",
         Err(CodeError::Unsupported { pc: 0 }),
+    ),
+    // ldc of an index behind the pool, getstatic of a Double, and of an interface's method
+    // invokestatic and invokevirtual.
+    (
+        b"\0\0\0\0\0\0\0\x02\x12\xff\0\0\0\0",
+        Err(CodeError::Operand { pc: 0 }),
+    ),
+    (
+        b"\0\0\0\0\0\0\0\x03\xb2\0\x0a\0\0\0\0",
+        Err(CodeError::Unsupported { pc: 0 }),
+    ),
+    (b"\0\0\0\0\0\0\0\x03\xb8\0\x07\0\0\0\0", Ok(1)),
+    (
+        b"\0\0\0\0\0\0\0\x03\xb6\0\x07\0\0\0\0",
+        Err(CodeError::Operand { pc: 0 }),
     ),
     // invokeinterface of a long and a reference: with 4 words, with 3, and with a last byte of 1.
     (b"\0\0\0\0\0\0\0\x05\xb9\0\x07\x04\0\0\0\0\0", Ok(1)),
@@ -208,6 +258,29 @@ const CASES: [Case; 54] = [
     ),
     (
         b"\0\0\0\0\0\0\0\x01\0\0\x01\0\0\0\x01\0\0\0\x0c\0\0",
+        Err(CodeError::Handler { row: 0 }),
+    ),
+    // Rows that begin, end and lead inside bipush.
+    (
+        b"\0\0\0\0\0\0\0\x03\x10\0\0\0\x01\0\x01\0\x03\0\0\0\0\0\0",
+        Err(CodeError::Handler { row: 0 }),
+    ),
+    (
+        b"\0\0\0\0\0\0\0\x03\x10\0\0\0\x01\0\0\0\x01\0\0\0\0\0\0",
+        Err(CodeError::Handler { row: 0 }),
+    ),
+    (
+        b"\0\0\0\0\0\0\0\x03\x10\0\0\0\x01\0\0\0\x03\0\x01\0\0\0\0",
+        Err(CodeError::Handler { row: 0 }),
+    ),
+    // An empty row behind a goto into itself, and in front of a chop of three locals.
+    (
+        b"\0\0\0\x01\0\0\0\x03\xa7\0\x01\0\x01\0\0\0\0\0\0\0\0\0\0",
+        Err(CodeError::Target { pc: 0 }),
+    ),
+    (
+        b"\0\0\0\x03\0\0\0\x01\0\0\x01\0\0\0\0\0\0\0\0\0\x01\0\x04\0\0\0\x05\0\x01\
+        \xf8\0\0",
         Err(CodeError::Handler { row: 0 }),
     ),
     // same, same_locals_1_stack_item and its extended form, chop, same_extended, append and full.
@@ -239,6 +312,24 @@ const CASES: [Case; 54] = [
     (
         b"\0\0\0\x03\0\0\0\x02\x10\0\0\0\0\x01\0\x04\0\0\0\x04\0\x02\0\0",
         Err(CodeError::MapFrame { index: 1 }),
+    ),
+    // A frame at the code's end, and a type that the instruction at 99 would make.
+    (
+        b"\0\0\0\x03\0\0\0\x01\0\0\0\0\x01\0\x04\0\0\0\x03\0\x01\x01",
+        Err(CodeError::MapFrame { index: 0 }),
+    ),
+    (
+        b"\0\x01\0\x03\0\0\0\x01\0\0\0\0\x01\0\x04\0\0\0\x06\0\x01\x40\x08\0\x63",
+        Ok(1),
+    ),
+    // A byte left over behind the reserved type 128, and behind a Float.
+    (
+        b"\0\0\0\x03\0\0\0\x01\0\0\0\0\x01\0\x04\0\0\0\x04\0\x01\x80\0",
+        Err(CodeError::MapFrame { index: 0 }),
+    ),
+    (
+        b"\0\x01\0\x03\0\0\0\x01\0\0\0\0\x01\0\x04\0\0\0\x05\0\x01\x40\x02\0",
+        Err(CodeError::Shape { at: 23 }),
     ),
     // The reserved type 128, a tag of 9, a Float, and an Object of an Integer.
     (

@@ -4,3 +4,6 @@ pub mod Tests
 pub mod Stacks
 pub mod FirstReads
 pub mod Results
+pub mod Puts
+pub mod Groups
+pub mod Pushes

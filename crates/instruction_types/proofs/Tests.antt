@@ -1,5 +1,5 @@
 -- What operands have to be, by number and by name.
-use Rattle.std.proofs.Common.{◌≡◌, ℕ, Bool, true, false, ◌||◌, List, Some, ap, sym, ◌∙◌, refl}
+use Rattle.std.proofs.Common.{◌≡◌, Bool, true, false, ◌||◌, Some, sym, ◌∙◌, refl}
 use Rattle.world_model.specs.World.{World}
 use Rattle.world_model.specs.BootNames.{java_object}
 use Rattle.jv_model.specs.Descriptors.{class_type, boolean_type}

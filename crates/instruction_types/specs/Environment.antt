@@ -1,5 +1,5 @@
 -- Which environment of the definitions an `Environment` is, in a world.
-use Rattle.std.specs.Prelude.{◌≡◌, Some, Option, option_map}
+use Rattle.std.specs.Prelude.{◌≡◌, Some, option_map}
 use Rattle.std.specs.Option.{IfSome}
 use Rattle.world_model.specs.World.{World}
 use Rattle.world_model.specs.BootNames.{java_object, java_string, java_throwable}

@@ -12,9 +12,11 @@ pub mod environment;
 pub mod locals;
 pub mod operands;
 pub mod returns;
+pub mod stack_forms;
 
-pub use arrays::array_store;
+pub use arrays::{array_load, array_store};
 pub use environment::{Environment, TypingError};
-pub use locals::{increment, load};
+pub use locals::{increment, load, store};
 pub use operands::{Wanted, change, pop_all, push_all};
 pub use returns::{return_value, return_void};
+pub use stack_forms::stack_form;

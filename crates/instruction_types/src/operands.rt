@@ -4,11 +4,12 @@ ghost use Rattle.std.specs.Prelude.{◌≡◌, ◌∷◌, [], ◌++◌, nat_le, 
 ghost use Rattle.std.specs.List.{sum_by};
 ghost use Rattle.world_model.specs.World.{World as ModelWorld};
 ghost use Rattle.typing_model.specs.Environment.{Environment as ModelEnvironment};
-ghost use Rattle.typing_model.specs.Transition.{popped, pushed, changed as changed_by};
+ghost use Rattle.typing_model.specs.Transition.{popped, pushed, changed as changed_by, to as to_model};
 ghost use Rattle.typing_model.specs.ArrayTypes.{is_array_of as is_model_array_of};
 ghost use Rattle.jv_types.specs.Instruction.{element_kind_of, value_kind_of};
-ghost use Rattle.typing_model.specs.VerificationType.{is_of_kind as is_model_of_kind, words_of as total_words};
-ghost use Rattle.type_rules.specs.Types.{type_of, IsKnownType};
+ghost use Rattle.typing_model.specs.VerificationType.{is_of_kind as is_model_of_kind, words_of as total_words, class as class_type};
+ghost use Rattle.class_world.specs.World.{name_at};
+ghost use Rattle.type_rules.specs.Types.{type_of, IsKnown, IsKnownType};
 ghost use Rattle.type_rules.specs.Frames.{types_of, words_of, AreKnown, IsKnownFrame};
 ghost use Rattle.instruction_types.specs.Environment.{IsReady};
 ghost use Rattle.instruction_types.specs.Outcome.{IsTyped};
@@ -16,7 +17,7 @@ ghost use Rattle.instruction_types.specs.Wanted.{component_of, test_of, tests_of
 
 use crate::environment::{Environment, TypingError};
 use class_world::World;
-use jv_types::{ElementKind, Steps, ValueKind};
+use jv_types::{ClassNo, ElementKind, Steps, ValueKind};
 use std::sync::ledger::Ledger;
 use type_rules::{ElementType, FieldType, TypeFrame, VerificationType, operand_assignable};
 
@@ -31,6 +32,14 @@ pub enum Wanted {
     To(VerificationType),
     /// An array of that kind, or null.
     ArrayOf(ElementKind),
+    /// What goes where either of those classes is wanted.
+    Both(ClassNo, ClassNo),
+    /// An object of that class; or, where that is allowed, uninitialized `this`.
+    Owner(bool, ClassNo),
+    /// Uninitialized `this` itself.
+    This,
+    /// What the `new` at that pc made.
+    New(u32),
 }
 
 /// The components of an array of a kind.
@@ -107,7 +116,23 @@ pub fn is_of_kind(kind: ValueKind, type_there: VerificationType) -> bool
     }
 }
 
+/// Whether an operand goes where one of a class is wanted.
+fn goes_to_class<L: Ledger>(
+    world: &World,
+    operand: VerificationType,
+    class: ClassNo,
+    steps: &mut Steps<L>,
+) -> bool
+    requires operand { IsKnownType world.now operand }
+    requires class { IsKnown world.now class }
+    ensures { (e : ModelEnvironment) → e.world ≡ world.now
+        → result ≡ to_model e (class_type (name_at world.now class)) (type_of world.now operand) }
+{
+    operand_assignable(world, operand, VerificationType::Class(class), steps)
+}
+
 /// Whether an operand is as it has to be.
+#[tactic(auto, unfolding(typing_model::specs::VerificationType::is_same))]
 fn takes<L: Ledger>(
     world: &World,
     here: &Environment,
@@ -126,6 +151,15 @@ fn takes<L: Ledger>(
         Wanted::AnyArray => matches!(operand, VerificationType::Array(_) | VerificationType::Null),
         Wanted::To(wanted) => operand_assignable(world, operand, wanted, steps),
         Wanted::ArrayOf(kind) => is_array_of(world, here, kind, operand, steps),
+        Wanted::Both(one, other) => {
+            goes_to_class(world, operand, one, steps) && goes_to_class(world, operand, other, steps)
+        }
+        Wanted::Owner(takes_this, class) => match operand {
+            VerificationType::This => takes_this,
+            _ => goes_to_class(world, operand, class, steps),
+        },
+        Wanted::This => matches!(operand, VerificationType::This),
+        Wanted::New(pc) => matches!(operand, VerificationType::New(made) if made == pc),
     }
 }
 

@@ -7,16 +7,16 @@ use Rattle.jv_model.specs.Refusal.{Cause}
 use Rattle.jv_model.specs.Outside.{Folder, counted}
 use Rattle.jv_model.specs.Status.{Status, ended, bad_words, bad_input, read_fault, write_fault, no_memory}
 use Rattle.run_model.specs.Invocation.{Invocation, invocation_of}
-use Rattle.run_model.specs.Loading.{Answer, Loading, loads, refuses, misses}
+use Rattle.load_model.specs.Loading.{Answer, Loading, loads, refuses, misses}
 use Rattle.run_model.specs.LoadWork.{load_work}
-use Rattle.run_model.specs.Work.{Work, runs}
-use Rattle.jv_model.specs.End.{End}
+use Rattle.run_model.specs.Work.{Work, runs, writes}
+use Rattle.jv_model.specs.End.{End, all_ended}
 use Rattle.straight_line_model.specs.Machine.{end_of}
 use Rattle.run_model.specs.Works.{Works}
 use Rattle.run_model.specs.Delivery.{Sunk, Texts, GotAll, GotFront, GotInOrder, OneFailed}
 use Rattle.run_model.specs.Call.{Call, Makes, MakesIfTold, AsksFirstOf, answer_of, loading_of, product_of, NothingFailed, IsQuiet, AreWritesQuiet}
 use Rattle.run_model.specs.Headline.{Headline, Outcome, worked, starved_early, Done, whole, cut, starved, IsSilent, IsWhole}
-use Rattle.jvolve_top.specs.Loads.{ComesTo, LoadsAll}
+use Rattle.class_loader.specs.Loads.{ComesTo, LoadsAll}
 
 -- ---- writes
 
@@ -116,6 +116,8 @@ works_refuses_nothing : (work : Work) (call : Call) (texts : Texts)
     → Works work (product_of call texts (Some call.status)) → RefusesNothing call.status
 works_refuses_nothing (runs program) call texts works =
     ended_refuses_nothing call.status (end_of works.0.machine) works.0.told
+works_refuses_nothing (writes text) call texts works =
+    ended_refuses_nothing call.status (Some all_ended) works.told
 
 done_refuses_nothing : (work : Work) (call : Call) → Done work call → RefusesNothing call.status
 done_refuses_nothing work call (whole texts works got) = works_refuses_nothing work call texts works

@@ -5,11 +5,11 @@ use Rattle.jv_types.specs.Entry.{entries_of}
 use Rattle.jv_types.specs.Status.{status_of}
 use Rattle.jv_model.specs.Status.{no_memory, ended}
 use Rattle.jv_model.specs.End.{all_ended}
-use Rattle.straight_line_model.specs.Machine.{Program}
+use Rattle.load_model.specs.Reads.{Read}
 use Rattle.run_model.specs.Call as model
 use Rattle.run_model.specs.Delivery.{Sunk}
 use Rattle.run_model.specs.Headline.{Done, IsSilent}
-use Rattle.run_model.specs.Work.{runs}
+use Rattle.run_model.specs.Work.{Work}
 use Rattle.run_model.specs.Works as works
 use Rattle.jvolve_top.specs.declared.call.Reply.{Reply}
 use Rattle.jvolve_top.specs.declared.call.Product.{Product}
@@ -18,7 +18,7 @@ use Rattle.jvolve_top.specs.Outside.{sinks}
 use Rattle.jvolve_top.specs.Words.{words_view}
 
 -- the call of these words that came to that reply
-abbrev pub call : List (Bor (List ℕ)) → Reply → model.Read → Sunk → Sunk → Sunk → model.Call
+abbrev pub call : List (Bor (List ℕ)) → Reply → Read → Sunk → Sunk → Sunk → model.Call
 call words reply files out report trace = record {
   words = words_view words;
   files = files;
@@ -28,7 +28,7 @@ call words reply files out report trace = record {
   sinks = sinks out report trace;
 }
 
--- what a run to its end gives
+-- what work gives that is done
 abbrev pub product_view : Product → works.Product
 product_view product = record {
   journal = entries_of product.journal.items;
@@ -37,9 +37,9 @@ product_view product = record {
   status = Some (ended all_ended);
 }
 
--- What comes of running a program, where memory lasts until it runs. The words that ask for it, and
--- the files that say it, may be any.
-abbrev pub RunsOrStarves : Program → Reply → Sunk → Sunk → Sunk → Type 0
-RunsOrStarves program reply out report trace = (words : List (Bor (List ℕ))) (files : model.Read)
-    → Done (runs program) (call words reply files out report trace)
+-- What comes of work, where memory lasts until it's done. The words that ask for it, and the files
+-- that say it, may be any.
+abbrev pub DoesOrStarves : Work → Reply → Sunk → Sunk → Sunk → Type 0
+DoesOrStarves work reply out report trace = (words : List (Bor (List ℕ))) (files : Read)
+    → Done work (call words reply files out report trace)
     ⊎ ((status_of reply.status ≡ no_memory) × IsSilent (call words reply files out report trace))

@@ -3,21 +3,23 @@
 ghost use Rattle.std.specs.Prelude.{◌≡◌, [], IfOk};
 ghost use Rattle.straight_line_model.specs.StraightLine.{IsStraightLine};
 ghost use Rattle.run_model.specs.Headline.{Headline};
+ghost use Rattle.run_model.specs.Work.{runs, writes};
 ghost use Rattle.run_model.specs.Works.{Works};
-ghost use Rattle.class_reader.specs.Body.{body_of};
-ghost use Rattle.jvolve_top.specs.Outside.{read, sunk};
-ghost use Rattle.jvolve_top.specs.Loads.{program, work};
-ghost use Rattle.jvolve_top.specs.Calls.{call, product_view, RunsOrStarves};
+ghost use Rattle.class_loader.specs.Outside.{read};
+ghost use Rattle.straight_line.specs.Body.{body_of};
+ghost use Rattle.straight_line.specs.Programs.{program};
+ghost use Rattle.jvolve_top.specs.Outside.{sunk};
+ghost use Rattle.jvolve_top.specs.Loads.{work_of, IsStraight};
+ghost use Rattle.jvolve_top.specs.Calls.{call, product_view, DoesOrStarves};
 
 use crate::deliver::{Texts, deliver};
-use crate::load::load;
-use crate::machine::{Run, run_to_end};
+use crate::load::{Work, load};
 use crate::words::read_words;
-use class_reader::Body;
 use jv_outer::{Files, Sink, WriteError};
-use jv_types::{Entry, List, NoMemory, Status};
+use jv_types::{Bytes, Entry, List, NoMemory, Status};
 use run_text::journal_text;
 use std::alloc::Global;
+use straight_line::{Body, Run, run_to_end};
 
 /// What a call answers, beside what it wrote.
 #[derive(Debug, Drop)]
@@ -44,7 +46,7 @@ fn silent(alloc: Global, status: Status) -> Reply
     }
 }
 
-/// What a run to its end gives.
+/// What work gives that is done.
 #[derive(Drop)]
 struct Product {
     journal: List<Entry>,
@@ -55,7 +57,7 @@ struct Product {
 /// Makes a run to its end, before anything is written of it.
 fn make_run(alloc: Global, body: &Body) -> Result<Product, NoMemory>
     requires { IsStraightLine (body_of body.now) }
-    ensures { IfOk result (λ product. Works (work body.now) (product_view product)) }
+    ensures { IfOk result (λ product. Works (runs (program body.now)) (product_view product)) }
 {
     let Run { output, journal } = run_to_end(alloc, body)?;
     let trace = journal_text(alloc, &journal)?;
@@ -73,21 +75,47 @@ fn make_run(alloc: Global, body: &Body) -> Result<Product, NoMemory>
     })
 }
 
-/// Runs a program and writes what it made.
-fn run_program<O: Sink, R: Sink, J: Sink>(
+/// A text that is to be written, and no run.
+fn make_text(alloc: Global, text: Bytes) -> Product
+    ensures { Works (writes text.items) (product_view result) }
+{
+    Product {
+        journal: List::new(alloc),
+        shares: List::new(alloc),
+        texts: Texts {
+            out: text,
+            report: List::new(alloc),
+            trace: List::new(alloc),
+        },
+    }
+}
+
+/// Does work, before anything is written of it.
+fn make(alloc: Global, work: Work) -> Result<Product, NoMemory>
+    requires { IsStraight work }
+    ensures { IfOk result (λ product. Works (work_of work) (product_view product)) }
+{
+    match work {
+        Work::Runs(body) => make_run(alloc, &body),
+        Work::Writes(text) => Ok(make_text(alloc, text)),
+    }
+}
+
+/// Does work and writes what it gave.
+fn do_work<O: Sink, R: Sink, J: Sink>(
     alloc: Global,
-    body: &Body,
+    work: Work,
     out: &mut O,
     report: &mut R,
     trace: &mut J,
 ) -> Reply
-    requires { IsStraightLine (body_of body.now) }
-    ensures { RunsOrStarves (program body.now) result
+    requires { IsStraight work }
+    ensures { DoesOrStarves (work_of work) result
         (sunk O.bytes O.writes O.faults out.old out.new)
         (sunk R.bytes R.writes R.faults report.old report.new)
         (sunk J.bytes J.writes J.faults trace.old trace.new) }
 {
-    let Ok(product) = make_run(alloc, body) else {
+    let Ok(product) = make(alloc, work) else {
         return silent(alloc, Status::NoMemory);
     };
     let Product {
@@ -107,9 +135,10 @@ fn run_program<O: Sink, R: Sink, J: Sink>(
     }
 }
 
-/// Does what the words ask for: `run MANIFEST` runs the program that the manifest and its class
-/// file say. It writes the output to `out`, then the report to `report`, then the journal's text
-/// to `trace`. It always returns.
+/// Does what the words ask for. `run MANIFEST` runs the program that the manifest and its class
+/// file say; it writes the output to `out`, then the report to `report`, then the journal's text to
+/// `trace`. `asm FILE` writes the bytes of the class file of an assembler text to `out`. It always
+/// returns.
 ///
 /// `Reply` tells the status, the journal and the shares; the clause says of what they, and the
 /// bytes at the sinks, are a function, which files are asked for, and when each status comes.
@@ -130,7 +159,7 @@ pub fn jvolve_alone<F: Files, O: Sink, R: Sink, J: Sink>(
         return silent(alloc, Status::BadWords);
     };
     match load(alloc, files, invocation) {
-        Ok(body) => run_program(alloc, &body, out, report, trace),
+        Ok(work) => do_work(alloc, work, out, report, trace),
         Err(stop) => silent(alloc, Status::from(stop)),
     }
 }

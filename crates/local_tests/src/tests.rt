@@ -1,6 +1,8 @@
 //! Each local family at its edges. The numbers are those that `java` prints.
 
-use jv_types::{Conversion, Insn, Instruction, List, Shift, StackForm};
+ghost use Rattle.std.specs.Prelude.{◌<◌, length};
+
+use jv_types::{Conversion, Insn, Instruction, List, Shift, StackForm, SwitchPair, ValueKind};
 use jv_values::Value;
 use local_steps::local_step;
 use std::test::Fail;
@@ -83,6 +85,19 @@ fn to_char(n: i32) -> Value {
     stack[0]
 }
 
+/// The word that `i2s` leaves.
+#[tactic(auto, unfolding(machine_model::specs::LocalStep::local_step_of, jv_values::specs::Values::operands_in))]
+fn to_short(n: i32) -> Value {
+    let insn = Insn {
+        pc: 0,
+        next: 1,
+        instruction: Instruction::Convert(Conversion::IntToShort),
+    };
+    let mut stack = [Value::Int(n)];
+    let _next = local_step(&insn, &[], &mut [], &mut stack, 1);
+    stack[0]
+}
+
 /// The word that `l2i` leaves.
 #[tactic(auto, unfolding(machine_model::specs::LocalStep::local_step_of, jv_values::specs::Values::operands_in))]
 fn to_int(n: i64) -> Value {
@@ -110,6 +125,35 @@ fn switched(targets: List<u32>, key: i32) -> Option<u32> {
     };
     let mut stack = [Value::Int(key)];
     local_step(&insn, &[], &mut [], &mut stack, 1)?.target
+}
+
+/// Where a `lookupswitch` goes, whose pairs are these.
+#[tactic(auto, unfolding(machine_model::specs::LocalStep::local_step_of, jv_values::specs::Values::operands_in))]
+fn looked_up(pairs: List<SwitchPair>, key: i32) -> Option<u32> {
+    let insn = Insn {
+        pc: 0,
+        next: 40,
+        instruction: Instruction::Lookupswitch {
+            otherwise: 99,
+            pairs,
+        },
+    };
+    let mut stack = [Value::Int(key)];
+    local_step(&insn, &[], &mut [], &mut stack, 1)?.target
+}
+
+/// Makes an `istore`, behind `wide` where the local's number needs it.
+#[tactic(auto, unfolding(machine_model::specs::LocalStep::local_step_of, jv_values::specs::Values::operands_in))]
+fn store(locals: &mut [Value], local: u16, n: i32)
+    requires { local < length locals.old }
+{
+    let insn = Insn {
+        pc: 0,
+        next: 4,
+        instruction: Instruction::Store(ValueKind::Int, local),
+    };
+    let mut stack = [Value::Int(n)];
+    let _next = local_step(&insn, &[], locals, &mut stack, 1);
 }
 
 #[test]
@@ -180,6 +224,14 @@ fn conversions(rt: HostRuntime) {
         assert_eq!(rt; to_byte(n), Value::Int(byte));
         assert_eq!(rt; to_char(n), Value::Int(unit));
     }
+    for (n, short) in [
+        (32_767, 32_767),
+        (32_768, -32_768),
+        (-32_769, 32_767),
+        (65_536, 0),
+    ] {
+        assert_eq!(rt; to_short(n), Value::Int(short));
+    }
     for (n, low) in [(2_147_483_648, i32::MIN), (-1, -1), (i64::MIN, 0)] {
         assert_eq!(rt; to_int(n), Value::Int(low));
     }
@@ -197,6 +249,56 @@ fn switches(rt: HostRuntime) -> Result<(), Fail> {
     ] {
         let targets = List::from_slice(rt.alloc(), &[24, 32, 40])?;
         assert_eq!(rt; switched(targets, key), Some(target));
+    }
+    Ok(())
+}
+
+#[test]
+fn pairs(rt: HostRuntime) -> Result<(), Fail> {
+    for (key, target) in [
+        (i32::MIN, 50),
+        (i32::MIN + 1, 99),
+        (-1, 99),
+        (0, 60),
+        (1, 99),
+        (i32::MAX - 1, 99),
+        (i32::MAX, 70),
+    ] {
+        let pairs = [
+            SwitchPair {
+                key: i32::MIN,
+                target: 50,
+            },
+            SwitchPair { key: 0, target: 60 },
+            SwitchPair {
+                key: i32::MAX,
+                target: 70,
+            },
+        ];
+        let pairs = List::from_slice(rt.alloc(), &pairs)?;
+        assert_eq!(rt; looked_up(pairs, key), Some(target));
+    }
+    Ok(())
+}
+
+#[test]
+fn ends_of_the_locals(rt: HostRuntime) -> Result<(), Fail> {
+    let mut locals = vec![in rt.alloc(); Value::Int(7); 4096]?;
+    store(locals.as_mut_slice(), 0, 1);
+    store(locals.as_mut_slice(), 255, 2);
+    store(locals.as_mut_slice(), 256, 3);
+    store(locals.as_mut_slice(), 4095, 4);
+    for (local, n) in [
+        (0, 1),
+        (1, 7),
+        (254, 7),
+        (255, 2),
+        (256, 3),
+        (257, 7),
+        (4094, 7),
+        (4095, 4),
+    ] {
+        assert_eq!(rt; locals.get(local), Some(&Value::Int(n)));
     }
     Ok(())
 }

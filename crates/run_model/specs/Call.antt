@@ -4,22 +4,12 @@ use Rattle.jv_model.specs.Journal.{Entry}
 use Rattle.jv_model.specs.Status.{Status, no_memory}
 use Rattle.jv_model.specs.Outside.{Folder, counted, Rose}
 use Rattle.run_model.specs.Invocation.{invocation_of}
-use Rattle.run_model.specs.Loading.{Answer, Loading}
+use Rattle.load_model.specs.Loading.{Answer, Loading}
+use Rattle.load_model.specs.Reads.{Read}
 use Rattle.run_model.specs.Work.{Work}
 use Rattle.run_model.specs.LoadWork.{load_work}
 use Rattle.run_model.specs.Delivery.{Sunk, Sinks, Texts}
 use Rattle.run_model.specs.Works.{Product}
-
--- The files before a call and after it.
-pub record Read : Type 0 where
-  -- what they hold, where they tell it
-  pub folder : Option Folder
-  -- the names that were asked for so far
-  pub asked_before : List (List ℕ)
-  pub asked_after : List (List ℕ)
-  -- how many reads have failed so far
-  pub faults_before : ℕ
-  pub faults_after : ℕ
 
 pub record Call : Type 0 where
   -- each word as its bytes in UTF-8

@@ -5,7 +5,7 @@ use Rattle.jv_model.specs.Refusal.{Cause}
 use Rattle.jv_model.specs.Status.{Status, bad_words, bad_input, read_fault, write_fault, no_memory}
 use Rattle.jv_model.specs.Outside.{counted}
 use Rattle.run_model.specs.Invocation.{invocation_of}
-use Rattle.run_model.specs.Loading.{Loading, loads, refuses, misses}
+use Rattle.load_model.specs.Loading.{Loading, loads, refuses, misses}
 use Rattle.run_model.specs.Work.{Work}
 use Rattle.run_model.specs.Delivery.{Texts, GotNoByte, GotAll, GotInOrder, OneFailed}
 use Rattle.run_model.specs.Works.{Works}

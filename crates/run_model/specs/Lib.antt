@@ -1,7 +1,7 @@
 -- the words of a call
 pub mod Invocation
 -- loading
-pub mod Loading
+pub mod MainCode
 pub mod Later
 pub mod LoadProgram
 -- runs

@@ -1,12 +1,13 @@
 -- What may come of a command's work: its journal, who made it, its texts and, once it's done, its status.
 use Rattle.std.specs.Prelude.{◌≡◌, ℕ, List, [], ◌∷◌, Option, Some, ◌⊎◌, length, option_map}
 use Rattle.jv_model.specs.Journal.{Entry}
+use Rattle.jv_model.specs.End.{all_ended}
 use Rattle.jv_model.specs.Status.{Status, ended}
 use Rattle.straight_line_model.specs.Machine.{Program, Machine, end_of, output_of, report_of}
 use Rattle.text_model.specs.JournalText.{journal_text}
 use Rattle.run_model.specs.Journal.{replay}
 use Rattle.run_model.specs.RoundRobin.{IsRoundRobin}
-use Rattle.run_model.specs.Work.{Work, runs}
+use Rattle.run_model.specs.Work.{Work, runs, writes}
 use Rattle.run_model.specs.Delivery.{Texts}
 
 pub record Product : Type 0 where
@@ -34,5 +35,13 @@ abbrev pub IsOneShare : Product → Type 0
 IsOneShare product =
     (product.shares ≡ length product.journal ∷ []) ⊎ ((product.shares ≡ []) × (product.journal ≡ []))
 
+-- There is no journal, and this text is to be written to `out`.
+pub record IsText (text : List ℕ) (product : Product) : Type 0 where
+  pub journal : product.journal ≡ []
+  pub shares : product.shares ≡ []
+  pub texts : product.texts ≡ record { out = text; report = []; trace = [] }
+  pub told : product.status ≡ Some (ended all_ended)
+
 abbrev pub Works : Work → Product → Type 0
 Works (runs program) product = IsRun program product × IsRoundRobin program product.journal × IsOneShare product
+Works (writes text) product = IsText text product

@@ -2,7 +2,8 @@
 //! status and the journal that it leaves.
 //!
 //! Read `Headline` first, which is the promise, with `Call` (the data of a call), `Works` (what may
-//! come of a command's work) and `Delivery` (what sinks got). Then `Invocation` (the words), `Loading`
-//! and `LoadProgram` (the files), `Journal` and `RoundRobin` (the runs). `Later` is the one place that
-//! knows what this version refuses because it isn't built yet.
+//! come of a command's work) and `Delivery` (what sinks got). Then `Invocation` (the words),
+//! `LoadWork` and `LoadProgram` (the files, in the terms of `load_model`), `Journal` and
+//! `RoundRobin` (the runs). `Later` is the one place that knows what this version refuses because
+//! it isn't built yet.
 #![tactic(auto)]

@@ -73,6 +73,13 @@ impl TypeFrame {
         self.stack.len()
     }
 
+    /// The number of locals.
+    pub fn local_count(&self) -> u32
+        ensures { result ≡ length self.now.locals }
+    {
+        self.locals.len()
+    }
+
     /// Puts a type on top. Where there is no memory for it, the frame stays.
     pub fn push(&mut self, operand: VerificationType) -> Result<(), NoMemory>
         ensures ok { OnOk result
@@ -98,6 +105,16 @@ impl TypeFrame {
             ≡ record self.old { locals = slice_set self.old.locals number local } }
     {
         self.locals.set(number, local);
+    }
+
+    /// Replaces the type of an operand, by its number from the top down.
+    pub fn set_operand(&mut self, number: u32, operand: VerificationType)
+        requires { number < length self.old.stack }
+        ensures { self.new
+            ≡ record self.old { stack = slice_set self.old.stack number operand } }
+    {
+        let place = self.stack.len() - 1 - number;
+        self.stack.set(place, operand);
     }
 
     /// An equal frame, unless there is no memory for it.

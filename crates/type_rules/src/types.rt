@@ -3,7 +3,7 @@
 ghost use Rattle.std.specs.Prelude.{◌≡◌};
 ghost use Rattle.world_model.specs.World.{World as ModelWorld};
 ghost use Rattle.typing_model.specs.VerificationType.{type_of as model_type_of, words as model_words, is_one_word as model_is_one_word};
-ghost use Rattle.type_rules.specs.Types.{letter_of, type_of, field_type_of};
+ghost use Rattle.type_rules.specs.Types.{letter_of, type_of, field_type_of, IsKnownElement, IsKnownType};
 
 use jv_types::ClassNo;
 
@@ -69,8 +69,10 @@ impl ElementType {
     /// What a local or an operand of the type is to the verifier.
     #[tactic(auto, unfolding(typing_model::specs::VerificationType::type_of))]
     fn verification_type(self) -> VerificationType
-        ensures { (world : ModelWorld) → type_of world result
+        ensures same { (world : ModelWorld) → type_of world result
             ≡ model_type_of (field_type_of world (record { dimensions = 0; element = self })) }
+        ensures known { (world : ModelWorld) → IsKnownElement world self
+            → IsKnownType world result }
     {
         match self {
             ElementType::Double | ElementType::Float => VerificationType::Top,
@@ -88,8 +90,10 @@ impl ElementType {
 impl FieldType {
     /// What a local or an operand of the type is to the verifier.
     pub fn verification_type(self) -> VerificationType
-        ensures { (world : ModelWorld) → type_of world result
+        ensures same { (world : ModelWorld) → type_of world result
             ≡ model_type_of (field_type_of world self) }
+        ensures known { (world : ModelWorld) → IsKnownElement world self.element
+            → IsKnownType world result }
     {
         if self.dimensions == 0 {
             return self.element.verification_type();

@@ -9,8 +9,8 @@ use Rattle.class_reader.proofs.Loops.InFront.{Refuses-first}
 use Rattle.code_reader.proofs.Stages.{stages_are}
 use Rattle.code_reader.proofs.method.read_member.Goals as goal
 
-pub returns-in_err-read_body-in-Some : goal.returns-in_err-read_body-in-Some
-returns-in_err-read_body-in-Some c =
+pub returns-in_err-read_body-in-Some-clause-code : goal.returns-in_err-read_body-in-Some-clause-code
+returns-in_err-read_body-in-Some-clause-code c =
     let file = class_data_of c.args.class.now in
     let member = member_of c.args.member.now in
     let error = err_from_is_err_and c.from_residual.result c.from_residual.ensures.1 in
@@ -19,8 +19,8 @@ returns-in_err-read_body-in-Some c =
     (rw (← stages_are file c.args.method member c.in-Some.bytes.now)
     c.in_err-read_body-in-Some.ensures.body))
 
-pub returns-in_ok-read_body-in-Some : goal.returns-in_ok-read_body-in-Some
-returns-in_ok-read_body-in-Some c =
+pub returns-in_ok-read_body-in-Some-clause-code : goal.returns-in_ok-read_body-in-Some-clause-code
+returns-in_ok-read_body-in-Some-clause-code c =
     let file = class_data_of c.args.class.now in
     let member = member_of c.args.member.now in
     ap (λ (found : Option (List ℕ)). code_or_none file c.args.method member found)

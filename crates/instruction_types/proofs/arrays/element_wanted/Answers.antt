@@ -1,4 +1,4 @@
-use Rattle.std.proofs.Common.{◌≡◌, sym, ◌∙◌, ap}
+use Rattle.std.proofs.Common.{sym, ◌∙◌, ap}
 use Rattle.world_model.specs.BootNames.{java_object}
 use Rattle.typing_model.specs.VerificationType.{class}
 use Rattle.typing_model.specs.Transition.{to}

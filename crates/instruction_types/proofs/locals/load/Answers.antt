@@ -1,9 +1,8 @@
-use Rattle.std.proofs.Common.{◌≡◌, Bool, [], ◌∷◌, Some, None, Option, slice_get, if◌then◌else◌, sym, subst, ◌∙◌, ap}
+use Rattle.std.proofs.Common.{Bool, [], ◌∷◌, Some, None, Option, slice_get, if◌then◌else◌, sym, subst, ◌∙◌, ap}
 use Rattle.std.proofs.lemmas.List.Elements.{All-nil, All-cons}
 use Rattle.typing_model.specs.VerificationType as model
 use Rattle.typing_model.specs.VerificationType.{TypeFrame, is_of_kind}
 use Rattle.typing_model.specs.Transition.{pushed}
-use Rattle.typing_model.specs.LocalTypes.{loaded}
 use Rattle.jv_types.specs.Instruction.{value_kind_of}
 use Rattle.type_rules.specs.Types.{type_of, IsKnownType}
 use Rattle.type_rules.specs.Frames.{frame_of}

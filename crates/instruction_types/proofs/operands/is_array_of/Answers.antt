@@ -1,4 +1,4 @@
-use Rattle.std.proofs.Common.{◌≡◌, ◌||◌, Bool, sym, subst, ◌∙◌, ap}
+use Rattle.std.proofs.Common.{◌||◌, sym, subst, ◌∙◌, ap}
 use Rattle.typing_model.specs.VerificationType.{array}
 use Rattle.typing_model.specs.Assignable.{operand_assignable}
 use Rattle.type_rules.specs.declared.types.FieldType.{FieldType}

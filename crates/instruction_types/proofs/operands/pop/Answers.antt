@@ -1,4 +1,4 @@
-use Rattle.std.proofs.Common.{◌≡◌, Bool, cond, List, Option, Some, None, drop, option_map, sym, subst, ◌∙◌, ap}
+use Rattle.std.proofs.Common.{Bool, cond, List, Some, None, drop, option_map, sym, subst, ◌∙◌, ap}
 use Rattle.std.proofs.lemmas.List.Elements.{All-drop}
 use Rattle.typing_model.specs.VerificationType as model
 use Rattle.typing_model.specs.VerificationType.{TypeFrame}

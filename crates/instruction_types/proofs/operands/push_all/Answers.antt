@@ -1,4 +1,4 @@
-use Rattle.std.proofs.Common.{◌≡◌, ◌-◌, ◌++◌, ℕ, nat_le, Bool, Option, Some, None, if◌then◌else◌, drop, length, sym, ap, ◌∙◌, arith}
+use Rattle.std.proofs.Common.{◌≡◌, ◌-◌, ◌++◌, ℕ, nat_le, Bool, Some, None, if◌then◌else◌, drop, length, sym, ap, ◌∙◌, arith}
 use Rattle.typing_model.specs.VerificationType as model
 use Rattle.type_rules.specs.Frames.{Types, types_of, frame_of}
 use Rattle.instruction_types.proofs.Stacks.{pushed-by}

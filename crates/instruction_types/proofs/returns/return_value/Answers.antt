@@ -1,4 +1,4 @@
-use Rattle.std.proofs.Common.{◌≡◌, Option, [], subst}
+use Rattle.std.proofs.Common.{Option, [], subst}
 use Rattle.std.specs.Option.{IfSome}
 use Rattle.std.proofs.lemmas.List.Elements.{All-nil, All-cons}
 use Rattle.type_rules.specs.declared.types.VerificationType.{VerificationType}

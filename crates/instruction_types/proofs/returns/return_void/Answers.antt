@@ -1,8 +1,8 @@
-use Rattle.std.proofs.Common.{◌≡◌, Bool, true, false, not, ◌&&◌, if◌then◌else◌, List, Some, None, is_none, sym, ◌∙◌, ap, refl}
+use Rattle.std.proofs.Common.{true, false, List, is_none, sym, ◌∙◌, ap, refl}
 use Rattle.std.specs.List.{list_any}
 use Rattle.type_rules.specs.declared.types.VerificationType.{VerificationType}
-use Rattle.type_rules.specs.Frames.{frame_of, is_uninitialized_this}
-use Rattle.instruction_types.proofs.Results.{not_none, returned-by}
+use Rattle.type_rules.specs.Frames.{is_uninitialized_this}
+use Rattle.instruction_types.proofs.Results.{returned-by}
 use Rattle.instruction_types.proofs.returns.return_void.Goals as goal
 
 pub returns-then-not-here : goal.returns-then-not-here

@@ -1,7 +1,7 @@
 use Rattle.std.proofs.Common.{sym}
 use Rattle.jvolve_top.specs.Words.{invocation_view}
-use Rattle.jvolve_top.specs.Outside.{read}
-use Rattle.jvolve_top.specs.Loads.{work}
+use Rattle.class_loader.specs.Outside.{read}
+use Rattle.jvolve_top.specs.Loads.{work_of}
 use Rattle.jvolve_top.proofs.OutcomeLemmas.{headline_of_work}
 use Rattle.jvolve_top.proofs.call.jvolve_alone.Goals as goal
 
@@ -10,5 +10,4 @@ returns-in-Ok g c =
     let files =
     read g.F.Files.folder g.F.Files.asked g.F.Files.faults c.args.files.now c.load.new.files in
     headline_of_work _ (invocation_view c.in-Some.invocation) (sym c.in-Some.ensures)
-    (work c.in-Ok.body) c.in-Ok.ensures.loaded
-    (c.run_program.ensures c.args.words.now files)
+    (work_of c.in-Ok.work) c.in-Ok.ensures.loaded (c.do_work.ensures c.args.words.now files)

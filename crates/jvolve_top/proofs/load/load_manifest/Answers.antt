@@ -1,53 +1,25 @@
-use Rattle.std.proofs.Common.{refl, ap}
 use Rattle.std.proofs.lemmas.Result.{err_from_is_err_and}
-use Rattle.jvolve_top.specs.Statements.{manifest_view, item_view, class_list}
-use Rattle.jvolve_top.specs.Outside.{read}
-use Rattle.jvolve_top.proofs.LoadLemmas.{manifest_stops, manifest_is_faulty, manifest_lacks_class, manifest_goes_on}
+use Rattle.class_loader.specs.Outside.{read}
+use Rattle.manifest_reader.specs.Statements.{manifest_view}
+use Rattle.class_loader.specs.Items.{classes_in}
+use Rattle.straight_line.specs.Programs.{program}
+use Rattle.jvolve_top.proofs.LoadLemmas.{items_stop, items_go_on}
 use Rattle.jvolve_top.proofs.load.load_manifest.Goals as goal
 
-pub returns-in_err-text-clause-loaded : goal.returns-in_err-text-clause-loaded
-returns-in_err-text-clause-loaded g c =
+pub returns-in_err-classes-clause-loaded : goal.returns-in_err-classes-clause-loaded
+returns-in_err-classes-clause-loaded g c =
     let error = err_from_is_err_and c.from_residual.result c.from_residual.ensures.1 in
     let files =
     read g.F.Files.folder g.F.Files.asked g.F.Files.faults c.args.files.now
-    c.read_file.new.files in
-    rw (error.1, error.2) (manifest_stops c.args.name.now files _ c.in_err-text.ensures.loaded)
-
-pub returns-in_err-manifest-clause-loaded : goal.returns-in_err-manifest-clause-loaded
-returns-in_err-manifest-clause-loaded g c =
-    let residual = c.from_residual-in_err-manifest in
-    let error = err_from_is_err_and residual.result residual.ensures.1 in
-    let files =
-    read g.F.Files.folder g.F.Files.asked g.F.Files.faults c.args.files.now
-    c.read_file.new.files in
+    c.load_items.new.files in
     rw (error.1, error.2)
-    (manifest_is_faulty c.args.name.now files c.in_ok-text.text.items c.in_ok-text.ensures.loaded _
-    (rw c.as_slice.ensures at c.in_err-manifest.ensures))
-
-pub returns-in_default-clause-loaded : goal.returns-in_default-clause-loaded
-returns-in_default-clause-loaded g c =
-    let files =
-    read g.F.Files.folder g.F.Files.asked g.F.Files.faults c.args.files.now
-    c.read_file.new.files in
-    manifest_lacks_class c.args.name.now files c.in_ok-text.text.items c.in_ok-text.ensures.loaded
-    (manifest_view c.in_ok-manifest.manifest) (rw c.as_slice.ensures at c.in_ok-manifest.ensures)
-    (ap class_list c.in_default.is)
+    (items_stop (manifest_view c.args.manifest.now) files _ c.in_err-classes.ensures.loaded)
 
 pub returns-clause-loaded : goal.returns-clause-loaded
 returns-clause-loaded g c =
     let files =
     read g.F.Files.folder g.F.Files.asked g.F.Files.faults c.args.files.now
-    c.read_file.new.files in
-    let files_then =
-    read g.F.Files.folder g.F.Files.asked g.F.Files.faults c.read_file.new.files
-    c.load_class.new.files in
-    manifest_goes_on c.args.name.now files c.in_ok-text.text.items c.in_ok-text.ensures.loaded
-    (manifest_view c.in_ok-manifest.manifest) (rw c.as_slice.ensures at c.in_ok-manifest.ensures)
-    (item_view c.in-Some.item)
-    files_then (record {
-      folder = c.in_ok-text.ensures.folder;
-      asked = refl;
-      faults =
-          refl;
-    }) c.load_class.result
-    (ap class_list c.in-Some.is) c.load_class.ensures.loaded
+    c.load_items.new.files in
+    items_go_on (manifest_view c.args.manifest.now) program c.program_of.result files
+    (classes_in c.in_ok-classes.classes) c.in_ok-classes.ensures.loaded
+    c.program_of.ensures.program

@@ -1,35 +1,20 @@
-use Rattle.jvolve_top.specs.Outside.{read}
-use Rattle.jvolve_top.proofs.LoadLemmas.{run_loads, run_is_refused, run_is_missed, run_starves}
+use Rattle.std.proofs.lemmas.Result.{err_from_is_err_and}
+use Rattle.class_loader.specs.Outside.{read}
+use Rattle.straight_line.specs.Programs.{program}
+use Rattle.jvolve_top.proofs.LoadLemmas.{run_loads, run_stops}
 use Rattle.jvolve_top.proofs.load.load_run.Goals as goal
 
-pub returns-in-Ok-clause-loaded : goal.returns-in-Ok-clause-loaded
-returns-in-Ok-clause-loaded g c =
+pub returns-in_err-body-clause-loaded : goal.returns-in_err-body-clause-loaded
+returns-in_err-body-clause-loaded g c =
+    let error = err_from_is_err_and c.from_residual.result c.from_residual.ensures.1 in
     let files =
     read g.F.Files.folder g.F.Files.asked g.F.Files.faults c.args.files.now
-    c.load_manifest.new.files in
-    run_loads c.args.manifest.now files c.in-Ok.body c.in-Ok.ensures.loaded
+    c.load_program.new.files in
+    rw (error.1, error.2) (run_stops c.args.manifest.now files _ c.in_err-body.ensures.loaded)
 
-pub returns-in-Err-Refused-clause-loaded : goal.returns-in-Err-Refused-clause-loaded
-returns-in-Err-Refused-clause-loaded g c =
+pub returns-clause-loaded : goal.returns-clause-loaded
+returns-clause-loaded g c =
     let files =
     read g.F.Files.folder g.F.Files.asked g.F.Files.faults c.args.files.now
-    c.load_manifest.new.files in
-    run_is_refused c.args.manifest.now files c.in-Err-Refused.item c.in-Err-Refused.sub
-    c.in-Err-Refused.cause c.told_cause.result
-    c.told_cause.ensures (rw c.in-Err-Refused.field-0-is at c.in-Err-Refused.ensures.loaded)
-
-pub returns-in-Err-ReadFault-clause-loaded : goal.returns-in-Err-ReadFault-clause-loaded
-returns-in-Err-ReadFault-clause-loaded g c =
-    let files =
-    read g.F.Files.folder g.F.Files.asked g.F.Files.faults c.args.files.now
-    c.load_manifest.new.files in
-    run_is_missed c.args.manifest.now files
-    (rw c.in-Err-ReadFault.field-0-is at c.in-Err-ReadFault.ensures.loaded)
-
-pub returns-in-Err-NoMemory-clause-loaded : goal.returns-in-Err-NoMemory-clause-loaded
-returns-in-Err-NoMemory-clause-loaded g c =
-    let files =
-    read g.F.Files.folder g.F.Files.asked g.F.Files.faults c.args.files.now
-    c.load_manifest.new.files in
-    run_starves c.args.manifest.now files
-    (rw c.in-Err-NoMemory.field-0-is at c.in-Err-NoMemory.ensures.loaded)
+    c.load_program.new.files in
+    run_loads c.args.manifest.now files (program c.in_ok-body.body) c.in_ok-body.ensures.loaded

@@ -1,4 +1,4 @@
-use Rattle.std.proofs.Common.{bytes_eq, subst, List, ℕ}
+use Rattle.std.proofs.Common.{bytes_eq, subst}
 use Rattle.std.specs.List.{IsDistinct}
 use Rattle.class_names.proofs.Lists.{IsDistinct-map}
 use Rattle.class_names.proofs.names.Names.len.Goals as goal

@@ -35,7 +35,7 @@ pub invariant_of-result : goal.invariant_of-result
 invariant_of-result c =
     let infos = c.args.classes.items in
     let gives = subst (λ (l : List ClassInfo). GivesDeclared c.declare_members.new.texts l c.in_ok-declared.declared) c.as_slice.ensures c.in_ok-declared.ensures in
-    is_filled infos _ _ gives _ _ _ c.requires.infos c.requires.names _ _
+    is_filled infos _ _ gives _ _ _ c.requires.infos c.requires.names c.requires.acyclic c.requires.once _ _
     (c.in_ok-field_orders.ensures ∙ ap (λ (l : List ClassInfo). orders_of (world_of_infos l) (field_order (world_of_infos l))) c.as_slice-2.ensures)
     (c.in_ok-method_orders.ensures ∙ ap (λ (l : List ClassInfo). orders_of (world_of_infos l) (method_order (world_of_infos l))) c.as_slice-3.ensures)
     c.new.ensures c.new-2.ensures

@@ -12,5 +12,5 @@ array-in_arrays zero element some = absurd (some refl)
 array-in_arrays (suc n) element some =
     let less : suc n - 1 ≡ n = omega arith in ap (λ (m : ℕ). model.array (in_arrays m element)) less
 
-pub returns : goal.returns
-returns c = λ world. array-in_arrays c.args.self.dimensions (element_of world c.args.self.element) c.if-self-eq0.false
+pub returns-clause-same : goal.returns-clause-same
+returns-clause-same c = λ world. array-in_arrays c.args.self.dimensions (element_of world c.args.self.element) c.if-self-eq0.false

@@ -1,0 +1,3 @@
+pub mod TargetLemmas
+mod FrameLemmas
+mod CodeLemmas

@@ -1,0 +1,4 @@
+pub mod Growing
+pub mod Numbering
+pub mod NoneTwice
+pub mod NoneCyclic

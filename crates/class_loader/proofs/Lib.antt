@@ -1,0 +1,3 @@
+pub mod Loaders
+pub mod PlacedLemmas
+pub mod ItemLemmas

@@ -1,0 +1,20 @@
+use Rattle.std.proofs.Common.{◌+◌, ◌≤◌, List, length, ap}
+use Rattle.std.specs.Prelude.{IsSomeAnd}
+use Rattle.jv_values.specs.Values.{places_of}
+use Rattle.thread_frames.specs.Frames.{FrameState, newest, change_newest, with_pushed}
+use Rattle.frame_stacks.specs.declared.thread.Thread.{Thread}
+use Rattle.frame_stacks.specs.Threads.{with_frames}
+use Rattle.frame_stacks.proofs.ThreadLemmas.{some_of, kept_in, renewed_in}
+use Rattle.frame_stacks.proofs.stacks.Stacks.push_value.Goals as goal
+
+pub invariant_of-self : goal.invariant_of-self
+invariant_of-self c =
+    let some = some_of (λ (thread : Thread). IsSomeAnd (newest thread.frames) (λ frame. length frame.stack + places_of c.args.v ≤ frame.max_stack)) c.args.self.now c.args.t.0 c.requires in
+    kept_in c.self.inside c.args.self.now c.args.t.0 _ c.self.invariant c.self.view_is some
+
+pub returns : goal.returns
+returns c =
+    let some = some_of (λ (thread : Thread). IsSomeAnd (newest thread.frames) (λ frame. length frame.stack + places_of c.args.v ≤ frame.max_stack)) c.args.self.now c.args.t.0 c.requires in
+    let thread = c.index_mut.result.now in
+    renewed_in c.self.inside c.args.self.now c.args.t.0 thread (record thread { frames = c.push_value.new.self }) (with_frames (change_newest (with_pushed c.args.v))) c.self.invariant c.self.view_is some c.index_mut.ensures.value
+    (ap (λ (frames : List FrameState). let its : Thread = record thread { frames = frames } in its) c.push_value.ensures)

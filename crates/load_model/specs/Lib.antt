@@ -1,0 +1,6 @@
+-- what loading is
+pub mod Loading
+pub mod Reads
+-- the classes that items bring
+pub mod LoadClasses
+pub mod LoadItems

@@ -1,0 +1,9 @@
+pub mod Names
+pub mod Linked
+pub mod Fields
+pub mod Constants
+pub mod Objects
+pub mod Replacements
+pub mod Signatures
+pub mod Calls
+pub mod Constructors

@@ -1,0 +1,3 @@
+mod StraightLineLemmas
+mod RunLemmas
+mod MainLemmas

@@ -1,0 +1,6 @@
+-- programs
+pub mod Body
+pub mod Operands
+pub mod Programs
+-- their runs
+pub mod Runs

@@ -1,0 +1,83 @@
+//! The instructions that are run, among those of methods (JVMS 6.5).
+
+ghost use Rattle.std.specs.Prelude.{◌≡◌, option_map, Some, map};
+ghost use Rattle.run_model.specs.MainCode.{operation_of as model_operation, integer_in, instruction_of, placed_of};
+ghost use Rattle.jv_model.specs.ConstantPool.{const_at};
+ghost use Rattle.jv_types.specs.ClassData.{pool_of};
+ghost use Rattle.jv_types.specs.Instruction.{arithmetic_of, instruction_of as method_instruction_of};
+ghost use Rattle.jv_types.specs.Instructions.{placed_of as method_placed_of};
+ghost use Rattle.jv_types.specs.IntOperation.{operation_of};
+ghost use Rattle.straight_line.specs.Body.{placed_of as here_placed_of};
+ghost use Rattle.straight_line.specs.Programs.{instruction_found};
+
+use crate::body::{Instruction, Placed};
+use crate::names::{names_out, names_println};
+use jv_types::{
+    Arithmetic, Const, Insn, Instruction as MethodInstruction, IntOperation, List, StackForm,
+};
+
+/// The arithmetic that needs no divisor.
+fn operation_of(operation: Arithmetic) -> Option<IntOperation>
+    ensures { option_map operation_of result ≡ model_operation (arithmetic_of operation) }
+{
+    match operation {
+        Arithmetic::Add => Some(IntOperation::Add),
+        Arithmetic::Subtract => Some(IntOperation::Subtract),
+        Arithmetic::Multiply => Some(IntOperation::Multiply),
+        Arithmetic::And => Some(IntOperation::Conjunction),
+        Arithmetic::Or => Some(IntOperation::Disjunction),
+        Arithmetic::Xor => Some(IntOperation::ExclusiveDisjunction),
+        Arithmetic::Divide | Arithmetic::Remainder => None,
+    }
+}
+
+/// What pushes the Integer at an index.
+fn integer_at(pool: &List<Const>, index: u16) -> Option<Instruction>
+    ensures { instruction_found result ≡ integer_in (const_at (pool_of pool.now.items) index) }
+{
+    match pool.as_slice().get(usize::from(index)) {
+        Some(Const::Integer(value)) => Some(Instruction::Constant(*value)),
+        _ => None,
+    }
+}
+
+/// An instruction as it is run, where it is.
+pub(crate) fn instruction_of(
+    pool: &List<Const>,
+    instruction: &MethodInstruction,
+) -> Option<Instruction>
+    ensures { instruction_found result
+        ≡ instruction_of (pool_of pool.now.items) (method_instruction_of instruction.now) }
+{
+    match instruction {
+        MethodInstruction::PushInt(value) => Some(Instruction::Constant(*value)),
+        MethodInstruction::Ldc(index) => integer_at(pool, *index),
+        MethodInstruction::IntArithmetic(operation) => match operation_of(*operation) {
+            Some(operation) => Some(Instruction::Arithmetic(operation)),
+            None => None,
+        },
+        MethodInstruction::IntNegate => Some(Instruction::Negate),
+        MethodInstruction::Stack(StackForm::Pop) => Some(Instruction::Pop),
+        MethodInstruction::Getstatic(index) if names_out(pool, *index) => Some(Instruction::GetOut),
+        MethodInstruction::Invokevirtual(index) if names_println(pool, *index) => {
+            Some(Instruction::PrintLine)
+        }
+        MethodInstruction::ReturnVoid => Some(Instruction::Return),
+        _ => None,
+    }
+}
+
+/// The same with its place.
+pub(crate) fn placed_of(pool: &List<Const>, insn: &Insn) -> Option<Placed>
+    ensures { option_map here_placed_of result
+        ≡ placed_of (pool_of pool.now.items) (method_placed_of insn.now) }
+{
+    match instruction_of(pool, &insn.instruction) {
+        Some(instruction) => Some(Placed {
+            pc: insn.pc,
+            next: insn.next,
+            instruction,
+        }),
+        None => None,
+    }
+}

@@ -1,0 +1,9 @@
+mod ByName
+mod Flags
+mod LookUps
+mod TypesThere
+mod SameUses
+mod Programs
+mod Finals
+mod Starting
+mod NoClasses
