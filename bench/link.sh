@@ -21,6 +21,8 @@ time_of() {
 for shape in pools chain lattice; do
   for count in 256 512 1024; do time_of "$shape" "$count"; done
 done
-for count in 64 128 256; do time_of methods "$count"; done
+for shape in methods finals; do
+  for count in 256 512 960; do time_of "$shape" "$count"; done
+done
 for count in 4 8 16; do time_of fields "$count"; done
 for count in 16000 32000 64000; do time_of interfaces "$count"; done

@@ -4,7 +4,8 @@
 `pools`: classes that nothing is above, each with 500 static fields and code that names those of the
 next class, of 16 kB each. `fields`: the same with 16,000 fields, of half a megabyte each. `chain`:
 each class stands below the one before, overrides its method, and names a field of the first.
-`methods`: each stands below the one before, and has 900 abstract methods of names of its own.
+`methods`: each stands below the one before, and has 900 abstract methods of names of its own;
+`finals`: the same with 400 final methods.
 `lattice`: interfaces that each stand below all before, and a class below the last whose field is
 looked for in them all. `interfaces`: a class that names an interface so many times, by an entry each.
 """
@@ -113,6 +114,15 @@ def methods(count, folder):
     return [each.name for each in made]
 
 
+def finals(count, folder):
+    made = classes_below(count)
+    for number, each in enumerate(made):
+        for method in range(400):
+            each.add_method(17, "m%d" % (400 * number + method), "()V", each.name, [])
+        each.write(folder)
+    return [each.name for each in made]
+
+
 def lattice(count, folder):
     first, *interfaces, last = names(count)
     above = ClassFile(last)
@@ -143,8 +153,8 @@ def interfaces(count, folder):
 def main():
     shape, count, folder = sys.argv[1:]
     shapes = {
-        "pools": pools, "fields": fields, "chain": chain, "methods": methods, "lattice": lattice,
-        "interfaces": interfaces,
+        "pools": pools, "fields": fields, "chain": chain, "methods": methods, "finals": finals,
+        "lattice": lattice, "interfaces": interfaces,
     }
     os.makedirs(folder, exist_ok=True)
     classes = shapes[shape](int(count), folder)

@@ -6,3 +6,4 @@ mod SaidLemmas
 mod NearLemmas
 mod BlockLines
 mod NoteLemmas
+mod ClassLemmas

@@ -1,7 +1,9 @@
 //! From a text to the class that it describes.
 
-ghost use Rattle.std.specs.Prelude.{◌≡◌, ◌+◌, ℕ, List, [], Some, None, true, length, IfOk, MatchResult, OnOk};
+ghost use Rattle.std.specs.Prelude.{◌≡◌, ◌≤◌, ◌+◌, ℕ, List, [], Some, None, true, length, IfOk, MatchResult, OnOk};
+ghost use Rattle.jv_model.specs.Limits.{most_file_bytes};
 ghost use Rattle.jv_model.specs.Lines.{lines_of};
+ghost use Rattle.jv_model.specs.Profile.{IsInProfile};
 ghost use Rattle.jv_model.specs.Utf16.{units_of_utf8};
 ghost use Rattle.text_model.specs.LineFaults.{Fault, first_fault};
 ghost use Rattle.assembler_model.specs.AssembledClass.{assembled, class_of_parts, class_said, class_unless, faults_behind_head};
@@ -163,6 +165,11 @@ fn assemble_behind<'a>(
 /// asked for.
 pub fn assemble(alloc: Global, text: &[u8]) -> Result<ClassData, AsmError>
     ensures class { Assembles result (assembled text.now) }
+
+    // A text that is no longer than a file may be gives a class in the profile, so its code can be
+    // read. The grammar alone bounds no length that a class file writes as a number.
+    ensures profile { length text.now ≤ most_file_bytes
+        → IfOk result (λ class. IsInProfile (class_data_of class)) }
 
     // What is wrong with the first line is told, however little memory there is.
     ensures early { (fault : Fault) → head_fault (lines_of text.now) ≡ Some fault

@@ -4,5 +4,3 @@ pub mod Counted
 pub mod Lists
 pub mod Entries
 pub mod Units
-pub mod Instructions
-pub mod Places

@@ -4,18 +4,7 @@ use Rattle.jv_types.specs.Refusal.{limited_of}
 use Rattle.jv_types.specs.Reading.{Gives}
 use Rattle.class_reader.specs.declared.error.ClassError.{ClassError}
 use Rattle.class_reader.specs.declared.error.ClassError.TheVariants as class_errors
-use Rattle.class_reader.specs.declared.first_form.error.FormError.{FormError}
-use Rattle.class_reader.specs.declared.first_form.error.FormError.TheVariants as form_errors
-use Rattle.jv_model.specs.Refusal.{Cause, truncated, wrong_magic, wrong_version, wrong_constant, wrong_text, wrong_attribute, extra_bytes, above_limit, later}
-
--- a class file in its first form, or a part of one
-abbrev pub form_refusal : FormError → Option Cause
-form_refusal (form_errors.Truncated at) = Some (truncated at)
-form_refusal form_errors.Later = Some later
-form_refusal form_errors.NoMemory = None
-
-abbrev pub GivesForm : {X Y : Type 0} → (X → Y) → Result X FormError → Result Y Cause → Type 0
-GivesForm view answer read = Gives form_refusal view answer read
+use Rattle.jv_model.specs.Refusal.{Cause, truncated, wrong_magic, wrong_version, wrong_constant, wrong_text, wrong_attribute, extra_bytes, above_limit}
 
 -- a class file, or a part of one
 abbrev pub class_refusal : ClassError → Option Cause

@@ -1,8 +1,5 @@
-pub mod Body
 pub mod Gives
 pub mod Head
-pub mod Constant
-pub mod Operands
 pub mod Units
 pub mod Entries
 pub mod Owner

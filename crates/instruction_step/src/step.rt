@@ -9,7 +9,7 @@ ghost use Rattle.jv_types.specs.Instruction.{instruction_of};
 ghost use Rattle.type_rules.specs.Frames.{IsKnownFrame};
 ghost use Rattle.instruction_types.specs.Environment.{IsReady};
 ghost use Rattle.member_types.specs.Constructors.{IsTypedIn};
-ghost use Rattle.instruction_step.specs.Linked.{InstructionIsLinked};
+ghost use Rattle.linked_laws.specs.Code.{InstructionIsLinked};
 
 use crate::operands::{athrow, change_one, change_two, convert, pop, pop_two, push};
 use class_world::World;

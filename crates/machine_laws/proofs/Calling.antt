@@ -51,7 +51,8 @@ found_is test (y ∷ ys) x h = go (test y) refl h (λ k. found_is test ys x k)
     go true is h rest = sym (ap test (some_inj h)) ∙ is
     go false is h rest = rest h
 
-of_environment : (world : World) (c : Class) (method : Method) (e : Environment) → environment_of world c method ≡ Some e
+-- the parts of a method's environment
+pub of_environment : (world : World) (c : Class) (method : Method) (e : Environment) → environment_of world c method ≡ Some e
     → (c ≡ e.class) × (method ≡ e.method) × (method.code ≡ Some e.body) × (method_type_of method.descriptor ≡ Some e.type)
 of_environment world c method e h =
     let body = bind_is (λ body. method_type_of method.descriptor >>= λ type. Some (record { world = world; class = c; method = method; type = type; body = body })) method.code e h in

@@ -33,12 +33,12 @@ use Rattle.frame_laws.proofs.Verified.{some_and_is}
 use Rattle.frame_laws.proofs.Subsumption.{same_type}
 use Rattle.frame_laws.proofs.Onward.{subsumes}
 use Rattle.machine_model.specs.NativeSteps.{native_step}
-use Rattle.machine_laws.specs.Runnable.{class_of_type, NativeUse, native_type, MethodUse, CallUse, Selects, StaticCallUse, VirtualCallUse, InterfaceCallUse, SpecialCallUse}
+use Rattle.machine_laws.specs.Runnable.{class_of_type, NativeUse, native_type, MethodUse, CallUse, Selects, StaticCallUse, VirtualCallUse, InterfaceCallUse, IsReceived, SpecialCallUse}
 use Rattle.machine_laws.proofs.TypedStates.{IsTypedDeed}
 use Rattle.machine_laws.proofs.Ready.{Ready, throws_rightly, operands_fit}
 use Rattle.machine_laws.proofs.Operands.{Object, no_object, object, class_object, take_wanted, one_place, when_test}
 use Rattle.machine_laws.proofs.Calling.{of_frame, found_is, unless_is, made_at, no_results}
-use Rattle.machine_laws.proofs.Receivers.{receiver_fits, object_class}
+use Rattle.machine_laws.proofs.Receivers.{receiver_fits, object_type, object_class}
 use Rattle.machine_laws.proofs.Arguments.{are_whole, take_arguments, places_are}
 use Rattle.machine_laws.proofs.NativeEnds.{Leaves}
 use Rattle.machine_laws.proofs.Natives.{native_is_right, static_native_is_right}
@@ -231,7 +231,7 @@ module _ (r : Running) (live : ℕ → Bool) (ready : Ready r live) where
       rw (ap (λ (vs : List Value). slice_get vs (length front)) is ∙ get_seam front (reference id) others) (each id refl stands)
 
   -- What a call of a method of an object finds on the operands: a receiver of the class below the arguments.
-  record Received (m : MemberReference) (call : CallUse m) (owner : List ℕ) : Type 0 where
+  record Received (m : MemberReference) (call : CallUse m) (owner : List ℕ) (test : Test) : Type 0 where
     front : List Value
     value : Value
     others : List Value
@@ -239,12 +239,15 @@ module _ (r : Running) (live : ℕ → Bool) (ready : Ready r live) where
     fit : (callee : Environment) → pointwise (is_of_type heap callee) (as_locals (map type_of call.type.parameters)) (reverse front) ≡ true
     whole : are_whole (reverse front) ≡ true
     receiver : Object heap ready.e (class_type owner) value
+    -- it is of whatever class its test wants
+    also : (name : List ℕ) → ((t : VerificationType) → test t ≡ true → to ready.e (class name) t ≡ true)
+        → is_of_type heap ready.e (class name) value ≡ true
     rest : are_of_types heap ready.e (drop (length (result_types m.descriptor)) ready.at.applies.after.stack) others ≡ true
 
   receive : (m : MemberReference) (call : CallUse m) (owner : List ℕ) (test : Test)
       → ((t : VerificationType) → test t ≡ true → to ready.e (class owner) t ≡ true)
       → changed ready.e (are_arguments ready.e call.type ++ test ∷ []) (results call.type) ready.before ≡ Some ready.at.applies.after
-      → Received m call owner
+      → Received m call owner test
   unfolding below
   receive m call owner test weaker h =
       let c = changed_is ready.e (are_arguments ready.e call.type ++ test ∷ []) (results call.type) ready.before ready.at.applies.after h in
@@ -259,6 +262,12 @@ module _ (r : Running) (live : ℕ → Bool) (ready : Ready r live) where
         fit = a.fit;
         whole = a.whole;
         receiver = class_object heap ready.e owner x.value x.of;
+        also = λ name more.
+            (let y = take_wanted heap ready.e (subsumes heap ready.runnable.verified ready.e ready.typed) (class name) [] a.types c.0 a.others refl (below_weaker test (to ready.e (class name)) more [] a.types c.0 a.are_below) a.below_fit in
+            let same : y.value ∷ y.others ≡ x.value ∷ x.others =
+            sym (y.is ∙ one_place heap ready.e (class name) y.value y.others refl y.of) ∙ (x.is ∙ one_place heap ready.e (class owner) x.value x.others refl x.of) in
+            let one : y.value ≡ x.value = cc in
+            subst (λ (v : Value). is_of_type heap ready.e (class name) v ≡ true) one y.of);
         rest = below_result m call c.0 x.others (ap (λ (f : TypeFrame). f.stack) (sym p.1))
             (subst (λ (ts : List VerificationType). are_of_types heap ready.e ts x.others ≡ true) (some_inj x.are_below) x.fit);
       }
@@ -266,7 +275,7 @@ module _ (r : Running) (live : ℕ → Bool) (ready : Ready r live) where
   -- ---- `invokevirtual` and `invokeinterface`
 
   selected_received : (m : MemberReference) (call : CallUse m) → selected_called ready.e (member_named m) ready.before ≡ Some ready.at.applies.after
-      → Received m call m.class
+      → Received m call m.class (to ready.e (class m.class))
   selected_received m call h =
       let type = bind_is (λ (type : MethodType). if is_constructor_name m.name || is_initializer_name m.name then None else changed ready.e (are_arguments ready.e type ++ to ready.e (class m.class) ∷ []) (results type) ready.before) (method_type_of m.descriptor) ready.at.applies.after h in
       let w = unless_is (is_constructor_name m.name || is_initializer_name m.name) (changed ready.e (are_arguments ready.e type.0 ++ to ready.e (class m.class) ∷ []) (results type.0) ready.before) ready.at.applies.after type.2 in
@@ -296,7 +305,7 @@ module _ (r : Running) (live : ℕ → Bool) (ready : Ready r live) where
       rw (object_class r live ready id own.0 own.1)
       (either (is_sub r.state.world (class_of_type own.0) (class_with_methods m.class)) _
       (λ below. instance_runs m used.call x.front id own.0 x.others (x.is ∙ ap (λ (v : Value). x.front ++ (v ∷ x.others)) same) own.1 x.fit x.whole (record { is_call = is_call; rest = x.rest })
-      (selected r.state.world used.found m (class_of_type own.0)) (used.selects own.0 below)))))
+      (selected r.state.world used.found m (class_of_type own.0)) (used.selects own.0 (object_type r live ready id own.0 own.1) below)))))
     where
       either : (b : Bool) (deed : Deed) → (b ≡ true → IsTypedDeed r.state.world deed)
           → IsTypedDeed r.state.world (if b then deed else throws (codes "java/lang/IncompatibleClassChangeError") false)
@@ -312,11 +321,15 @@ module _ (r : Running) (live : ℕ → Bool) (ready : Ready r live) where
       same_text ready.e.class.name r.frame.method.class (found_is (λ (c : Class). bytes_eq c.name r.frame.method.class) r.state.world.classes ready.e.class of.class_there)
 
   special_selects : (m : MemberReference) (used : SpecialCallUse r.state.world ready.e m) (own : FieldType)
-      → (may_stand r.state.world own (class_type m.class) ≡ true)
-      ⊎ ((is_own_or_super ready.e m.class ≡ true) × (may_stand r.state.world own (class_type ready.e.class.name) ≡ true))
-      → Selects r.state.world m own (specially_selected r.state.world r.frame.method.class used.found m)
+      → IsReceived r.state.world ready.e m own → Selects r.state.world m own (specially_selected r.state.world r.frame.method.class used.found m)
   special_selects m used own which =
       subst (λ (n : List ℕ). Selects r.state.world m own (specially_selected r.state.world n used.found m)) own_class (used.selects own which)
+
+  -- an object of a class stands for it
+  of_class : (name : List ℕ) (id : ℕ) (value : Value) → value ≡ reference id → is_of_type heap ready.e (class name) value ≡ true
+      → stands_for heap id (class_type name) ≡ true
+  unfolding is_of_type
+  of_class name id value same f = subst (λ (v : Value). is_of_type heap ready.e (class name) v ≡ true) same f
 
   plain_special : (m : MemberReference) (used : SpecialCallUse r.state.world ready.e m)
       → calls m.descriptor ready.at.placed.instruction ≡ true
@@ -327,8 +340,11 @@ module _ (r : Running) (live : ℕ → Bool) (ready : Ready r live) where
       rw (used.resolved, words_are m used.call x.front x.fit)
       (on_receiver_right m used.call x.front x.value x.others m.class _ x.is x.receiver (λ id same stands.
       let own = some_and_is (λ own. may_stand r.state.world own (class_type m.class)) (heap.type_at id) stands in
+      let mine : stands_for heap id (class_type ready.e.class.name) ≡ true =
+      of_class ready.e.class.name id x.value same (x.also ready.e.class.name (λ t h. (and_parts (to ready.e (class ready.e.class.name) t) (to ready.e (class m.class) t) h).0)) in
       instance_runs m used.call x.front id own.0 x.others (x.is ∙ ap (λ (v : Value). x.front ++ (v ∷ x.others)) same) own.1 x.fit x.whole (record { is_call = is_call; rest = x.rest })
-      (specially_selected r.state.world r.frame.method.class used.found m) (special_selects m used own.0 (inl own.2))))
+      (specially_selected r.state.world r.frame.method.class used.found m)
+      (special_selects m used own.0 (inl (own.2, inr (sym (ap (passes (λ t. may_stand r.state.world t (class_type ready.e.class.name))) own.1) ∙ mine))))))
 
   -- ---- constructors
 
@@ -428,11 +444,11 @@ module _ (r : Running) (live : ℕ → Bool) (ready : Ready r live) where
         subst (λ (ts : List VerificationType). are_of_types heap ready.e ts values ≡ true) (some_inj w.1) p.1,
       )
 
-  constructor_special : (m : MemberReference) (used : SpecialCallUse r.state.world ready.e m)
+  constructor_special : (m : MemberReference) (used : SpecialCallUse r.state.world ready.e m) → is_constructor_name m.name ≡ true
       → calls m.descriptor ready.at.placed.instruction ≡ true
       → constructor_called ready.e m used.call.type ready.before ≡ Some ready.at.applies.after
       → IsTypedDeed r.state.world (invoke_special r m)
-  constructor_special m used is_call h =
+  constructor_special m used named is_call h =
       let type = used.call.type in
       let receiver = bind_is (λ receiver. initialized ready.e m.class receiver >>= λ object. popped (are_arguments ready.e type ++ is_same receiver ∷ []) ready.before >>= λ rest. if is_none type.result then Some (with_each receiver object rest) else None) (operand_at (length type.parameters) ready.before) ready.at.applies.after h in
       let fresh = bind_is (λ object. popped (are_arguments ready.e type ++ is_same receiver.0 ∷ []) ready.before >>= λ rest. if is_none type.result then Some (with_each receiver.0 object rest) else None) (initialized ready.e m.class receiver.0) ready.at.applies.after receiver.2 in
@@ -460,7 +476,7 @@ module _ (r : Running) (live : ℕ → Bool) (ready : Ready r live) where
           → IsTypedDeed r.state.world (runs r (length front + 1) (Some id) (specially_selected r.state.world r.frame.method.class used.found m))
       of front id others is fit whole left (inl stands) =
           let own = some_and_is (λ own. may_stand r.state.world own (class_type m.class)) (heap.type_at id) stands in
-          instance_runs m used.call front id own.0 others is own.1 fit whole left (specially_selected r.state.world r.frame.method.class used.found m) (special_selects m used own.0 (inl own.2))
+          instance_runs m used.call front id own.0 others is own.1 fit whole left (specially_selected r.state.world r.frame.method.class used.found m) (special_selects m used own.0 (inl (own.2, inl named)))
       of front id others is fit whole left (inr (super, stands)) =
           let own = some_and_is (λ own. may_stand r.state.world own (class_type ready.e.class.name)) (heap.type_at id) stands in
           instance_runs m used.call front id own.0 others is own.1 fit whole left (specially_selected r.state.world r.frame.method.class used.found m) (special_selects m used own.0 (inr (super, own.2)))
@@ -471,9 +487,9 @@ module _ (r : Running) (live : ℕ → Bool) (ready : Ready r live) where
       → special_called ready.e (member_named m) ready.before ≡ Some ready.at.applies.after → IsTypedDeed r.state.world (invoke_special r m)
   special_is_right m used is_call h =
       let type = bind_is (λ (type : MethodType). if is_constructor_name m.name then constructor_called ready.e m type ready.before else if is_initializer_name m.name then None else changed ready.e (are_arguments ready.e type ++ is_special_receiver ready.e m ∷ []) (results type) ready.before) (method_type_of m.descriptor) ready.at.applies.after h in
-      go (is_constructor_name m.name) (subst (λ (t : MethodType). cond (is_constructor_name m.name) (constructor_called ready.e m t ready.before) (if is_initializer_name m.name then None else changed ready.e (are_arguments ready.e t ++ is_special_receiver ready.e m ∷ []) (results t) ready.before) ≡ Some ready.at.applies.after) (of_type m used.call type.0 type.1) type.2)
+      go (is_constructor_name m.name) refl (subst (λ (t : MethodType). cond (is_constructor_name m.name) (constructor_called ready.e m t ready.before) (if is_initializer_name m.name then None else changed ready.e (are_arguments ready.e t ++ is_special_receiver ready.e m ∷ []) (results t) ready.before) ≡ Some ready.at.applies.after) (of_type m used.call type.0 type.1) type.2)
     where
-      go : (b : Bool) → cond b (constructor_called ready.e m used.call.type ready.before) (if is_initializer_name m.name then None else changed ready.e (are_arguments ready.e used.call.type ++ is_special_receiver ready.e m ∷ []) (results used.call.type) ready.before) ≡ Some ready.at.applies.after
+      go : (b : Bool) → is_constructor_name m.name ≡ b → cond b (constructor_called ready.e m used.call.type ready.before) (if is_initializer_name m.name then None else changed ready.e (are_arguments ready.e used.call.type ++ is_special_receiver ready.e m ∷ []) (results used.call.type) ready.before) ≡ Some ready.at.applies.after
           → IsTypedDeed r.state.world (invoke_special r m)
-      go true h = constructor_special m used is_call h
-      go false h = plain_special m used is_call (unless_is (is_initializer_name m.name) (changed ready.e (are_arguments ready.e used.call.type ++ is_special_receiver ready.e m ∷ []) (results used.call.type) ready.before) ready.at.applies.after h).1
+      go true named h = constructor_special m used named is_call h
+      go false named h = plain_special m used is_call (unless_is (is_initializer_name m.name) (changed ready.e (are_arguments ready.e used.call.type ++ is_special_receiver ready.e m ∷ []) (results used.call.type) ready.before) ready.at.applies.after h).1

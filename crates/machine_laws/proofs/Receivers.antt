@@ -1,5 +1,5 @@
 -- Receivers: they are the first locals of methods, and have the methods of their classes.
-use Rattle.std.proofs.Common.{◌≡◌, ℕ, List, [], ◌∷◌, ◌++◌, Some, Bool, true, false, refl, ap, ◌∙◌, if◌then◌else◌, option_and_then, map}
+use Rattle.std.proofs.Common.{◌≡◌, ℕ, List, [], ◌∷◌, ◌++◌, Some, Bool, true, false, refl, ap, ◌∙◌, if◌then◌else◌, option_and_then, map, sym}
 use lib.Pointwise.{pointwise}
 use Rattle.jv_model.specs.Descriptors.{FieldType, class_type}
 use Rattle.world_model.specs.World.{is_static_method}
@@ -12,7 +12,7 @@ use Rattle.machine_model.specs.ObjectTypes.{own_type}
 use Rattle.machine_model.specs.Deed.{Running, class_of, class_of_contents}
 use Rattle.machine_model.specs.TypedValues.{HeapTyping, heap_typing, stands_for, is_of_type}
 use Rattle.frame_laws.proofs.Outcome.{both}
-use Rattle.machine_laws.specs.Runnable.{class_of_type}
+use Rattle.machine_laws.specs.Runnable.{is_object_type, class_of_type}
 use Rattle.machine_laws.proofs.Heaps.{typed_is}
 use Rattle.machine_laws.proofs.Ready.{Ready}
 
@@ -33,6 +33,15 @@ receiver_fits heap e id arguments kind stands fit =
 module _ (r : Running) (live : ℕ → Bool) (ready : Ready r live) where
   abbrev heap : HeapTyping
   heap = heap_typing r.state live
+
+  -- an object in use is of a type of objects
+  pub object_type : (id : ℕ) (own : FieldType) → heap.type_at id ≡ Some own → is_object_type own ≡ true
+  object_type id own at = let is = typed_is r.state live id own at in sym (ap is_object_type is.3) ∙ of is.1
+    where
+      of : (contents : Contents) → is_object_type (own_type contents) ≡ true
+      of (instance name values) = refl
+      of (string units) = refl
+      of (array type elements) = refl
 
   -- the class whose methods an object in use has is that of its type
   pub object_class : (id : ℕ) (own : FieldType) → heap.type_at id ≡ Some own → class_of r.state id ≡ Some (class_of_type own)

@@ -34,7 +34,7 @@ use Rattle.machine_laws.proofs.Ready.{Ready, Follows, itself, shared_with, throw
 use Rattle.machine_laws.proofs.Calling.{of_frame}
 use Rattle.machine_laws.proofs.Beginning.{nothing_taken, nothing_read, begins, entering}
 use Rattle.machine_laws.proofs.Calls.{held_right}
-use Rattle.machine_laws.proofs.Receivers.{receiver_fits, object_class}
+use Rattle.machine_laws.proofs.Receivers.{receiver_fits, object_type, object_class}
 use Rattle.machine_laws.proofs.NativeEnds.{Leaves, ends_rightly}
 use Rattle.machine_laws.proofs.Fields.{field_there, field_found, field_put}
 
@@ -166,7 +166,7 @@ module _ (r : Running) (live : ℕ → Bool) (ready : Ready r live) (on : flow_g
     starts_target_right (reference target) h =
         let own = some_and_is (λ own. may_stand r.state.world own (class_type (codes "java/lang/Runnable"))) (heap.type_at target) h in
         rw (object_class r live ready target own.0 own.1) (either (is_sub r.state.world (class_of_type own.0) (codes "java/lang/Runnable")) _
-        (λ below. starts_method_right target own.0 own.1 (select_in r.state.world (run_method (class_of_type own.0)) (chain r.state.world (class_of_type own.0))) (uses.target_runs own.0 below)))
+        (λ below. starts_method_right target own.0 own.1 (select_in r.state.world (run_method (class_of_type own.0)) (chain r.state.world (class_of_type own.0))) (uses.target_runs own.0 (object_type r live ready target own.0 own.1) below)))
       where
         either : (b : Bool) (deed : Deed) → (b ≡ true → IsTypedDeed r.state.world deed)
             → IsTypedDeed r.state.world (if b then deed else throws (codes "java/lang/IncompatibleClassChangeError") true)

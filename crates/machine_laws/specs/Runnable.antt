@@ -6,7 +6,7 @@ use Rattle.jv_model.specs.Operand.{Operand, MemberReference, class_named, member
 use Rattle.jv_model.specs.Instruction.{Instruction, getstatic, putstatic, getfield, putfield, invokevirtual, invokespecial, invokestatic, invokeinterface, new}
 use Rattle.jv_model.specs.Code.{Placed, Body}
 use Rattle.world_model.specs.World.{World, Method, has_flag, acc_abstract, is_static_method}
-use Rattle.world_model.specs.BootNames.{java_object, java_string, java_throwable}
+use Rattle.world_model.specs.BootNames.{java_object, java_string, java_throwable, is_constructor_name}
 use Rattle.world_model.specs.Supertypes.{chain, is_sub}
 use Rattle.world_model.specs.Layout.{declared, layout, field_place}
 use Rattle.world_model.specs.Members.{same_member}
@@ -88,6 +88,12 @@ pub record FieldUse (world : World) (m : MemberReference) : Type 0 where
 
 -- ---- calls
 
+-- what objects are of
+abbrev pub is_object_type : FieldType → Bool
+is_object_type (class_type name) = true
+is_object_type (array_of component) = true
+is_object_type other = false
+
 -- The class whose methods an object of a type has.
 abbrev pub class_of_type : FieldType → List ℕ
 class_of_type (class_type name) = name
@@ -120,7 +126,7 @@ pub record ThreadUse (world : World) (class : List ℕ) : Type 0 where
   pub number : PlaceUse world class number_field
   pub runs : (own : FieldType) → may_stand world own (class_type class) ≡ true
       → Runs world own (select_in world (run_method (class_of_type own)) (classes_below_thread world (class_of_type own)))
-  pub target_runs : (own : FieldType) → is_sub world (class_of_type own) (codes "java/lang/Runnable") ≡ true
+  pub target_runs : (own : FieldType) → is_object_type own ≡ true → is_sub world (class_of_type own) (codes "java/lang/Runnable") ≡ true
       → Runs world own (select_in world (run_method (class_of_type own)) (chain world (class_of_type own)))
 
 -- what a native method asks of the class that has it
@@ -211,17 +217,22 @@ pub record InterfaceCallUse (world : World) (m : MemberReference) : Type 0 where
   pub call : CallUse m
   pub found : Found Method
   pub resolved : resolved_method false world m ≡ Some found
-  pub selects : (own : FieldType) → is_sub world (class_of_type own) (class_with_methods m.class) ≡ true
+  pub selects : (own : FieldType) → is_object_type own ≡ true → is_sub world (class_of_type own) (class_with_methods m.class) ≡ true
       → Selects world m own (selected world found m (class_of_type own))
 
--- The receiver is of the class that is named; or it's the constructor's own object, and the class is its own or the one
--- above it.
+-- What `invokespecial` may be called on: an object of the class that is named, which is one of the current class too
+-- unless a constructor is called; or the constructor's own object, and the class is its own or the one above it.
+abbrev pub IsReceived : World → Environment → MemberReference → FieldType → Type 0
+IsReceived world e m own =
+    ((may_stand world own (class_type m.class) ≡ true)
+    × ((is_constructor_name m.name ≡ true) ⊎ (may_stand world own (class_type e.class.name) ≡ true)))
+    ⊎ ((is_own_or_super e m.class ≡ true) × (may_stand world own (class_type e.class.name) ≡ true))
+
 pub record SpecialCallUse (world : World) (e : Environment) (m : MemberReference) : Type 0 where
   pub call : CallUse m
   pub found : Found Method
   pub resolved : resolved_method false world m ≡ Some found
-  pub selects : (own : FieldType) → (may_stand world own (class_type m.class) ≡ true)
-      ⊎ ((is_own_or_super e m.class ≡ true) × (may_stand world own (class_type e.class.name) ≡ true))
+  pub selects : (own : FieldType) → IsReceived world e m own
       → Selects world m own (specially_selected world e.class.name found m)
 
 -- What an instruction of a method names is there, and of the kind that the instruction wants.

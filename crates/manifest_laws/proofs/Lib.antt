@@ -5,3 +5,4 @@ pub mod StatementLemmas
 pub mod KindLemmas
 pub mod LineLemmas
 pub mod LawLemmas
+pub mod LengthLemmas

@@ -1,5 +1,5 @@
-//! Laws of manifests, of the definitions alone: which fault of a text is told, and what a block is
-//! by its lines.
+//! Laws of manifests, of the definitions alone: which fault of a text is told, what a block is
+//! by its lines, and how long it may be.
 //!
 //! Each law is the contract of a function that does nothing, and `Laws` of its definitions says it.
 //! `Blocks` says of a block by its lines what `manifest_model` says of it by cutting a text, and
@@ -9,4 +9,4 @@
 
 mod laws;
 
-pub use laws::{blocks_are_cut, first_fault_is_told};
+pub use laws::{blocks_are_cut, blocks_are_shorter, first_fault_is_told};

@@ -16,7 +16,7 @@ use Rattle.type_rules.specs.declared.types.FieldType.{FieldType}
 use Rattle.type_rules.specs.Types.{in_arrays, element_of, field_type_of, IsKnownElement}
 use Rattle.instruction_types.proofs.Found.{found-name, found-known}
 use Rattle.numbered_types.specs.Numbered.{plain, in_array, number_of_type}
-use Rattle.member_types.specs.Linked.{FieldIsLinked, IsLinkedField, MethodIsLinked, IsLinkedMethod}
+use Rattle.linked_laws.specs.Operands.{FieldIsLinked, IsLinkedField, MethodIsLinked, IsLinkedMethod}
 
 pub linked-field : (world : model.World) (operand : Operand) (field : MemberReference) → member_of operand ≡ Some field
     → FieldIsLinked world operand → IsLinkedField world field

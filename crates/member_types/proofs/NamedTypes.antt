@@ -10,7 +10,7 @@ use Rattle.typing_model.specs.VerificationType.{TypeFrame}
 use Rattle.typing_model.specs.Environment.{class_of, named_type, array_or_class}
 use Rattle.method_descriptors.specs.Parameters.{is_there}
 use Rattle.numbered_types.proofs.Descriptors.{no_dimensions, pair_parts}
-use Rattle.member_types.specs.Linked.{ClassIsLinked}
+use Rattle.linked_laws.specs.Operands.{ClassIsLinked}
 
 pub linked-class : (world : World) (operand : Operand) (name : List ℕ) → class_of operand ≡ Some name → ClassIsLinked world operand
     → names_type world (λ (class : Class). true) name ≡ true

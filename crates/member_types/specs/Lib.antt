@@ -1,5 +1,4 @@
 pub mod Names
-pub mod Linked
 pub mod Fields
 pub mod Constants
 pub mod Objects

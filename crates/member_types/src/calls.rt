@@ -15,7 +15,7 @@ ghost use Rattle.type_rules.specs.Frames.{types_of, IsKnownFrame};
 ghost use Rattle.instruction_types.specs.Environment.{IsReady};
 ghost use Rattle.instruction_types.specs.Outcome.{IsTyped};
 ghost use Rattle.instruction_types.specs.Wanted.{tests_of, IsKnownWanted, AreKnownWanted};
-ghost use Rattle.member_types.specs.Linked.{MethodIsLinked};
+ghost use Rattle.linked_laws.specs.Operands.{MethodIsLinked};
 ghost use Rattle.member_types.specs.Calls.{receiver_tests, called};
 ghost use Rattle.member_types.specs.Constructors.{IsTypedIn};
 

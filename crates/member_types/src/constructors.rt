@@ -18,7 +18,7 @@ ghost use Rattle.instruction_types.specs.Environment.{IsEnvironment, IsReady};
 ghost use Rattle.instruction_types.specs.Outcome.{IsTyped};
 ghost use Rattle.instruction_types.specs.Wanted.{tests_of, AreKnownWanted};
 ghost use Rattle.member_types.specs.Names.{reference_of};
-ghost use Rattle.member_types.specs.Linked.{IsLinkedMethod};
+ghost use Rattle.linked_laws.specs.Operands.{IsLinkedMethod};
 ghost use Rattle.member_types.specs.Replacements.{type_of_uninitialized};
 ghost use Rattle.member_types.specs.Constructors.{makes as model_makes, HasCode, IsTypedIn, taken_and_replaced, constructor_called};
 

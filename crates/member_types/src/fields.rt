@@ -9,7 +9,7 @@ ghost use Rattle.type_rules.specs.Types.{IsKnown};
 ghost use Rattle.type_rules.specs.Frames.{IsKnownFrame};
 ghost use Rattle.instruction_types.specs.Environment.{IsEnvironment, IsReady};
 ghost use Rattle.instruction_types.specs.Outcome.{IsTyped};
-ghost use Rattle.member_types.specs.Linked.{FieldIsLinked};
+ghost use Rattle.linked_laws.specs.Operands.{FieldIsLinked};
 ghost use Rattle.member_types.specs.Fields.{IsField, FindsField};
 
 use crate::names::{has_name, member_name};

@@ -14,7 +14,7 @@ ghost use Rattle.type_rules.specs.Types.{field_type_of, IsKnownElement};
 ghost use Rattle.type_rules.specs.Frames.{IsKnownFrame};
 ghost use Rattle.instruction_types.specs.Environment.{IsReady};
 ghost use Rattle.instruction_types.specs.Outcome.{IsTyped};
-ghost use Rattle.member_types.specs.Linked.{ClassIsLinked};
+ghost use Rattle.linked_laws.specs.Operands.{ClassIsLinked};
 ghost use Rattle.member_types.specs.Objects.{IsNamedType};
 ghost use Rattle.member_types.specs.Replacements.{is_uninitialized as is_model_uninitialized};
 

@@ -1,13 +1,8 @@
--- the manifest, and a class file in its first form
-pub mod Manifest
-pub mod Items
-pub mod ConstantPool
+-- programs
 pub mod IntOperation
 pub mod Instruction
 pub mod OperandStack
 pub mod StraightLine
-pub mod Code
-pub mod ClassFile
--- the machine that runs it
+-- the machine that runs them
 pub mod Effect
 pub mod Machine

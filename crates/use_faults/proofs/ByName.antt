@@ -57,7 +57,8 @@ module _ (world : World) (name : List ℕ) where
 
 -- ---- what is found
 
-find_passes : {A : Type 0} (test : A → Bool) (items : List A) (x : A) → find test items ≡ Some x → test x ≡ true
+-- what is found passes
+pub find_passes : {A : Type 0} (test : A → Bool) (items : List A) (x : A) → find test items ≡ Some x → test x ≡ true
 find_passes test [] x is = absurd cc
 find_passes test (y ∷ items) x is = by (test y) refl is (find_passes test items x)
   where

@@ -1,17 +1,16 @@
 -- Final methods, from a class upwards.
-use Rattle.std.proofs.Common.{◌≡◌, ℕ, zero, suc, Bool, true, false, not, ◌&&◌, ◌||◌, List, [], ◌∷◌, ◌++◌, Option, Some, None, length, map, option_map, slice_get, refl, ap, sym, ◌∙◌, ◌<◌}
+use Rattle.std.proofs.Common.{◌≡◌, ℕ, zero, suc, ◌-◌, arith, Bool, true, false, not, ◌&&◌, ◌||◌, List, [], ◌++◌, Option, Some, None, length, map, option_map, refl, ap, sym, ◌∙◌, ◌<◌}
 use Rattle.std.specs.Prelude.{option_and_then, option_to_list, IfSome}
 use Rattle.std.specs.List.{list_any, flat_map}
 use Rattle.std.proofs.lemmas.List.{append-nil}
 use Rattle.jv_model.specs.ClassData.{Const, Member}
-use Rattle.jv_model.specs.ConstantPool.{units_at}
 use Rattle.jv_model.specs.Code.{Body}
 use Rattle.jv_model.specs.Partial.{passes}
 use Rattle.world_model.specs.World.{Method, Class, World, class_in, declared_method, has_flag, acc_static, acc_private, acc_final}
 use Rattle.world_model.specs.BootNames.{is_constructor_name}
 use Rattle.world_model.specs.Supertypes.{superclass_of, chain_within}
 use Rattle.code_model.specs.Names.{class_name_at}
-use Rattle.link_model.specs.WorldOf.{method_of, methods_of, class_of}
+use Rattle.link_model.specs.WorldOf.{methods_of, class_of}
 use Rattle.link_model.specs.SupertypeFaults.{is_final_method, overrides_final, is_final_class, breaks_final}
 use Rattle.jv_types.specs.ClassData.{member_of, pool_of}
 use Rattle.jv_types.specs.Loaded.{loaded_of, code_of}
@@ -23,6 +22,9 @@ use Rattle.class_world.specs.World.{number_of, name_at}
 use Rattle.class_world.specs.declared.class_info.ClassInfo.{ClassInfo}
 use Rattle.class_world.proofs.Infos.{HasInfo}
 use Rattle.use_faults.specs.Wrong.{IsKnown, upwards, declares_final, is_final_at, overrides_at}
+use Rattle.use_faults.specs.Finals.{is_final_by, AreFinalMethods, DeclareWith, DeclareUpwards}
+use Rattle.use_faults.specs.declared.final_methods.FinalMethods.{FinalMethods}
+use Rattle.use_faults.proofs.FinalNumbers.{any_method, or_without}
 use Rattle.use_faults.proofs.ByName.{class_at, no_class, name_is, declared_name, place_inside}
 
 -- ---- what a class declares
@@ -137,52 +139,71 @@ known_inside world class known = place_inside world (name_at world class) class 
 
 -- ---- the methods of a class
 
-method_overrides : (world : World) (superclass : List ℕ) (pool : List Const) (member : Member) (body : Option (Body ℕ))
-    → overrides_final world superclass (method_of pool member body)
-    ≡ overrides_at world (number_of world superclass) pool member
-method_overrides world superclass pool member body =
-    ap (λ (b : Bool). not (has_flag acc_static member.flags) && not (has_flag acc_private member.flags)
-    && not (is_constructor_name (units_at pool member.name)) && b)
-    (chain_up world (units_at pool member.name) (units_at pool member.descriptor) (length world.classes) superclass)
-
 pub methods_override : (world : World) (superclass : List ℕ) (pool : List Const) (members : List Member) (bodies : List (Option (Body ℕ)))
     → list_any (overrides_at world (number_of world superclass) pool) members
     ≡ list_any (overrides_final world superclass) (methods_of pool members bodies)
-unfolding methods_of
-methods_override world superclass pool [] bodies = refl
-methods_override world superclass pool (member ∷ members) [] =
-    λ i. sym (method_overrides world superclass pool member None) i || methods_override world superclass pool members [] i
-methods_override world superclass pool (member ∷ members) (body ∷ bodies) =
-    λ i. sym (method_overrides world superclass pool member body) i || methods_override world superclass pool members bodies i
+methods_override world superclass pool members bodies =
+    any_method (λ name descriptor flags. not (has_flag acc_static flags) && not (has_flag acc_private flags)
+    && not (is_constructor_name name)
+    && list_any (is_final_at world name descriptor) (upwards (length world.classes) world (number_of world superclass))) pool members bodies
+    ∙ (λ i. list_any (λ (m : Method). not (has_flag acc_static m.flags) && not (has_flag acc_private m.flags)
+    && not (is_constructor_name m.name)
+    && sym (chain_up world m.name m.descriptor (length world.classes) superclass) i) (methods_of pool members bodies))
 
 -- ---- a walk upwards
 
-pub ended : (world : World) (name descriptor : List ℕ) (next : Option ClassNo)
-    → false ≡ list_any (is_final_at world name descriptor) (upwards 0 world next)
+abbrev pub HaveFinals : World → FinalMethods → List ClassNo → Option ClassNo → ℕ → Option ClassNo → Type 0
+HaveFinals world methods classes number most next = (name descriptor : List ℕ) →
+    (list_any (is_final_by methods name descriptor) classes || list_any (is_final_at world name descriptor) (upwards most world next))
+    ≡ list_any (is_final_at world name descriptor) (upwards (length world.classes) world number)
+
+ended : (world : World) (name descriptor : List ℕ) (next : Option ClassNo)
+    → list_any (is_final_at world name descriptor) (upwards 0 world next) ≡ false
 unfolding chain_within
 ended world name descriptor None = refl
 ended world name descriptor (Some class) = refl
 
-pub final_here : (world : World) (name descriptor : List ℕ) (most : ℕ) (class : ClassNo) (there : Class)
-    → slice_get world.classes class.0 ≡ Some there → IsKnown world class → true ≡ declares_final name descriptor there
-    → true ≡ list_any (is_final_at world name descriptor) (upwards (suc most) world (Some class))
-unfolding chain_within
-final_here world name descriptor most class there at known is =
-    let rest = list_any (is_final_at world name descriptor)
-    (flat_map (chain_within most world) (superclass_of world (name_at world class))) in
-    ap (λ (b : Bool). b || rest) is
-    ∙ ap (λ (o : Option Class). passes (declares_final name descriptor) o || rest)
-    (sym (class_at world (name_at world class) class (sym known) ∙ at))
+or_assoc : (a b c : Bool) → ((a || b) || c) ≡ (a || (b || c))
+or_assoc true b c = refl
+or_assoc false b c = refl
 
-pub final_later : (world : World) (name descriptor : List ℕ) (most : ℕ) (class : ClassNo) (there : Class) (info : ClassInfo)
-    → slice_get world.classes class.0 ≡ Some there → HasInfo world class.0 info → IsKnown world class
-    → false ≡ declares_final name descriptor there
-    → list_any (is_final_at world name descriptor) (upwards most world info.superclass)
-    ≡ list_any (is_final_at world name descriptor) (upwards (suc most) world (Some class))
-final_later world name descriptor most class there info at has known is =
-    let both : Some there ≡ Some has.0 = sym at ∙ has.1 in
-    let same : there ≡ has.0 = cc in
-    sym (one_up world name descriptor most class info false has known (is ∙ ap (declares_final name descriptor) same))
+pub none_passed : (world : World) (methods : FinalMethods) (number : Option ClassNo) (classes : List ClassNo) → classes ≡ []
+    → HaveFinals world methods classes number (length world.classes - 0) number
+none_passed world methods number classes is name descriptor =
+    let all : length world.classes - 0 ≡ length world.classes = omega arith in
+    (λ i. list_any (is_final_by methods name descriptor) (is i)
+    || list_any (is_final_at world name descriptor) (upwards (all i) world number))
+
+module _ (world : World) (methods : FinalMethods) (number : Option ClassNo) (classes : List ClassNo) (most : ℕ) where
+  pub none_left : (next : Option ClassNo) → HaveFinals world methods classes number most next → next ≡ None
+      → DeclareUpwards world methods number classes
+  none_left next so_far is name descriptor =
+      or_without (list_any (is_final_by methods name descriptor) classes)
+      (list_any (is_final_at world name descriptor) (upwards most world next))
+      (ap (λ (o : Option ClassNo). list_any (is_final_at world name descriptor) (upwards most world o)) is)
+      ∙ so_far name descriptor
+
+  pub all_passed : (next : Option ClassNo) → HaveFinals world methods classes number most next → most ≡ 0
+      → DeclareUpwards world methods number classes
+  all_passed next so_far none name descriptor =
+      or_without (list_any (is_final_by methods name descriptor) classes)
+      (list_any (is_final_at world name descriptor) (upwards most world next))
+      (ap (λ (n : ℕ). list_any (is_final_at world name descriptor) (upwards n world next)) none ∙ ended world name descriptor next)
+      ∙ so_far name descriptor
+
+  pub one_passed : (left : ℕ) (next : Option ClassNo) (class : ClassNo) (info : ClassInfo) (more : List ClassNo)
+      → AreFinalMethods world methods → HasInfo world class.0 info → IsKnown world class → next ≡ Some class → most ≡ suc left
+      → DeclareWith methods classes class more
+      → HaveFinals world methods classes number most next → HaveFinals world methods more number left info.superclass
+  one_passed left next class info more are at known is_next is_most adds so_far name descriptor =
+      let here = (are.each_class class.0 at.0 at.1).each_method name descriptor in
+      let rest = list_any (is_final_at world name descriptor) (upwards left world info.superclass) in
+      ap (λ (b : Bool). b || rest) (adds name descriptor)
+      ∙ or_assoc (list_any (is_final_by methods name descriptor) classes) (is_final_by methods name descriptor class) rest
+      ∙ ap (λ (b : Bool). list_any (is_final_by methods name descriptor) classes || b)
+      (sym (one_up world name descriptor left class info (is_final_by methods name descriptor class) at known (sym here))
+      ∙ (λ i. list_any (is_final_at world name descriptor) (upwards (sym is_most i) world (sym is_next i))))
+      ∙ so_far name descriptor
 
 -- ---- a class
 

@@ -4,6 +4,8 @@ mod LookUps
 mod TypesThere
 mod SameUses
 mod Programs
+mod FinalNumbers
 mod Finals
+mod Marks
 mod Starting
 mod NoClasses

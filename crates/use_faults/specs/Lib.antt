@@ -1,2 +1,3 @@
 pub mod References
 pub mod Wrong
+pub mod Finals

@@ -115,8 +115,8 @@ fn counted_method<L: Ledger>(
     world.method_named(class, reference.name, reference.descriptor, &mut steps)
 }
 
-/// The field that a reference names (JVMS 5.4.3.2).
-fn find_field(world: &World, reference: MemberReference<'_>) -> Option<FieldPlace>
+/// The field that a reference names (JVMS 5.4.3.2), where its class is there and has it.
+pub fn find_field(world: &World, reference: MemberReference<'_>) -> Option<FieldPlace>
     ensures { option_map (field_at world.now) result
         ≡ option_map Some (field_found world.now reference.entry.class.now
         reference.entry.name.now reference.entry.descriptor.now) }
@@ -125,8 +125,8 @@ fn find_field(world: &World, reference: MemberReference<'_>) -> Option<FieldPlac
     counted_field::<Brand>(Blank::new(1), world, class, reference)
 }
 
-/// The method that a reference names (JVMS 5.4.3.3).
-fn find_method(world: &World, reference: MemberReference<'_>) -> Option<MethodNo>
+/// The method that a reference names (JVMS 5.4.3.3, 5.4.3.4), where its class is there and has it.
+pub fn find_method(world: &World, reference: MemberReference<'_>) -> Option<MethodNo>
     ensures { option_map (method_at world.now) result
         ≡ option_map Some (method_found world.now reference.entry.class.now
         reference.entry.name.now reference.entry.descriptor.now) }

@@ -30,7 +30,7 @@ fn methods_that_override_are_told(rt: HostRuntime) -> Result<(), Fail> {
     for (flags, name, expected) in METHODS {
         let name_units = units(rt.alloc(), name)?;
         assert_eq!(rt;
-            overrides::is_virtual(flags, name_units.as_slice()),
+            final_methods::is_virtual(flags, name_units.as_slice()),
             expected,
             "{name}"
         );

@@ -4,7 +4,6 @@ use Rattle.jv_model.specs.Refusal.{Cause}
 use Rattle.jv_model.specs.Input.{Input}
 use Rattle.jv_model.specs.ClassData.{Const, Attr, Member}
 use Rattle.jv_model.specs.ConstantPool.{class_tag}
-use Rattle.straight_line_model.specs.ConstantPool as first
 use Rattle.jv_model.specs.ClassReading.{Owner, owner_behind, missing_fault, attribute_at, attributes_at, MemberKind, index_at, classes_at, member_at, members_at}
 use Rattle.class_reader.proofs.Loops.Counted.{Kind, IsCounted}
 
@@ -17,13 +16,6 @@ plain item_at items_at = record {
   items_at = λ known. items_at;
   fault = λ known. None;
 }
-
-abbrev pub first_constants_kind : Kind (Unit {0}) first.Constant
-first_constants_kind = plain first.constant_at first.constants_at
-
-pub first_constants : IsCounted first_constants_kind
-unfolding first.constants_at
-first_constants = record { none = λ known input. refl; more = λ known count input. refl }
 
 abbrev pub classes_kind : List Const → Kind (Unit {0}) ℕ
 classes_kind pool = plain (index_at pool class_tag) (classes_at pool)

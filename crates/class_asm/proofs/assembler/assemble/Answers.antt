@@ -3,6 +3,7 @@ use Rattle.std.proofs.Common.{◌≡◌, Result, subst}
 use Rattle.jv_model.specs.ClassData.{ClassData}
 use Rattle.text_model.specs.LineFaults.{Fault}
 use Rattle.class_asm.specs.Assembles.{Assembles}
+use Rattle.class_asm.proofs.ClassLemmas.{is_in_profile}
 use Rattle.class_asm.proofs.HeadLemmas.{none_early, right_is, tells_head}
 use Rattle.class_asm.proofs.assembler.assemble.Goals as goal
 
@@ -14,6 +15,12 @@ pub returns-clause-class : goal.returns-clause-class
 returns-clause-class c =
     subst (λ (said : Result ClassData Fault). Assembles c.assemble_behind.result said)
     (right_is c.args.text.now c.in_ok-head.head c.in_ok-head.ensures) c.assemble_behind.ensures
+
+pub returns-clause-profile : goal.returns-clause-profile
+returns-clause-profile c =
+    is_in_profile c.args.text.now c.assemble_behind.result
+    (subst (λ (said : Result ClassData Fault). Assembles c.assemble_behind.result said)
+    (right_is c.args.text.now c.in_ok-head.head c.in_ok-head.ensures) c.assemble_behind.ensures)
 
 pub returns-clause-early : goal.returns-clause-early
 returns-clause-early c = λ fault told. absurd (none_early c.args.text.now c.in_ok-head.head fault c.in_ok-head.ensures told)

@@ -1,0 +1,8 @@
+use Rattle.std.proofs.Common.{sym, subst}
+use Rattle.boot_laws.proofs.Computed.{boot_classes_hold}
+use Rattle.boot_laws.specs.Laws.{BootClasses}
+use Rattle.linked_laws.proofs.Classes.{is_linked}
+use Rattle.linked_world_laws.proofs.code.boot_classes_are_there.Goals as goal
+
+pub returns : goal.returns
+returns c = λ world linked. subst BootClasses (sym (is_linked world linked).is) (boot_classes_hold linked.classes)

@@ -1,0 +1,11 @@
+pub mod Numbers
+pub mod MapPlaces
+pub mod Caught
+pub mod Sound
+pub mod StepRule
+pub mod Described
+pub mod Entering
+pub mod Leaving
+pub mod Members
+pub mod Passing
+pub mod Switches

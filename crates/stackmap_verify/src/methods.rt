@@ -1,0 +1,114 @@
+//! The methods of classes.
+
+ghost use Rattle.std.specs.Prelude.{◌≡◌, ◌<◌, Some, length, option_and_then, option_map, slice_get, IfOk};
+ghost use Rattle.world_model.specs.World.{Class, Method as ModelMethod};
+ghost use Rattle.link_model.specs.WorldOf.{class_of};
+ghost use Rattle.typing_model.specs.FailingPlace.{method_failure};
+ghost use Rattle.linked_laws.specs.Worlds.{IsLinkedWorld};
+ghost use Rattle.verifier_laws.proofs.Failures.{class_failure};
+ghost use Rattle.jv_types.specs.Loaded.{loaded_of};
+ghost use Rattle.class_world.specs.World.{IsInfo};
+ghost use Rattle.stackmap_verify.specs.Codes.{HoldsClass, told_of};
+ghost use Rattle.stackmap_verify.specs.Outcome.{Answers, Tells};
+
+use crate::code::failing_place;
+use crate::error::VerifyError;
+use crate::failure::Place;
+use class_world::{ClassInfo, Origin, World, text_at};
+use jv_types::{ClassNo, CodeBody, List, Loaded, Member, NoMemory, Steps};
+use std::alloc::Global;
+use std::sync::ledger::Ledger;
+
+/// What is told of a method that fails at a place.
+fn not_verified(
+    alloc: Global,
+    class: &ClassInfo,
+    loaded: &Loaded,
+    member: &Member,
+    place: Place,
+) -> Result<VerifyError, NoMemory>
+    ensures { IfOk result (Tells (Some (told_of class.now loaded.now member.now place))) }
+{
+    let pool = loaded.file.pool.as_slice();
+    Ok(VerifyError::NotVerified {
+        class: class.name.copy(alloc)?,
+        method: List::from_slice(alloc, text_at(pool, member.name))?,
+        descriptor: List::from_slice(alloc, text_at(pool, member.descriptor))?,
+        pc: place.pc,
+        rule: place.rule,
+    })
+}
+
+/// The code of the method with that index, where it has some.
+fn code_at(loaded: &Loaded, index: u32) -> Option<&CodeBody>
+    ensures { option_map (λ body. body.now) result
+        ≡ option_and_then (λ code. code) (slice_get loaded.now.codes.items index) }
+{
+    match loaded.codes.as_slice().get(index as usize) {
+        Some(Some(body)) => Some(body),
+        _ => None,
+    }
+}
+
+/// Verifies a method of a class that was read.
+fn verify_member<L: Ledger>(
+    alloc: Global,
+    world: &World,
+    class: &ClassInfo,
+    loaded: &Loaded,
+    index: u32,
+    steps: &mut Steps<L>,
+) -> Result<(), VerifyError>
+    requires world { IsLinkedWorld world.now }
+    requires class { HoldsClass world.now loaded.now class.now }
+    requires index { index < length loaded.now.file.methods.items }
+    ensures { (m : ModelMethod)
+        × (slice_get (class_of (loaded_of loaded.now)).methods index ≡ Some m)
+        × Answers (method_failure world.now (class_of (loaded_of loaded.now)) m) result }
+{
+    let member = loaded.file.methods.get(index);
+    let Some(body) = code_at(loaded, index) else {
+        return Ok(());
+    };
+    match failing_place(alloc, world, class, loaded, member, body, steps)? {
+        Some(place) => Err(not_verified(alloc, class, loaded, member, place)?),
+        None => Ok(()),
+    }
+}
+
+/// Verifies the methods of a class that was read.
+fn verify_members<L: Ledger>(
+    alloc: Global,
+    world: &World,
+    class: &ClassInfo,
+    loaded: &Loaded,
+    steps: &mut Steps<L>,
+) -> Result<(), VerifyError>
+    requires world { IsLinkedWorld world.now }
+    requires class { HoldsClass world.now loaded.now class.now }
+    ensures { Answers (class_failure world.now (class_of (loaded_of loaded.now))) result }
+{
+    for index in 0..loaded.file.methods.len() {
+        verify_member(alloc, world, class, loaded, index, steps)?;
+    }
+    Ok(())
+}
+
+/// Verifies the methods of a class. Those of a boot class have no code.
+pub fn verify_class<L: Ledger>(
+    alloc: Global,
+    world: &World,
+    class: ClassNo,
+    steps: &mut Steps<L>,
+) -> Result<(), VerifyError>
+    requires world { IsLinkedWorld world.now }
+    requires class { class.0 < length world.now.classes }
+    ensures { (c : Class) × (slice_get world.now.classes class.0 ≡ Some c)
+        × Answers (class_failure world.now c) result }
+{
+    let class = world.class(class);
+    match &class.origin {
+        Origin::Boot(_) => Ok(()),
+        Origin::Program(loaded) => verify_members(alloc, world, class, loaded, steps),
+    }
+}

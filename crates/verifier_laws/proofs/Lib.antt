@@ -1,0 +1,4 @@
+pub mod Firsts
+pub mod Failures
+pub mod Visits
+pub mod Rules
