@@ -7,7 +7,7 @@ set -u
 here=$(cd "$(dirname "$0")" && pwd)
 cd "$here/../crates/jvolve_main" || exit 1
 try() {
-  rt try "$@" --data "manifest=$here/../examples/add/manifest-in-text" -- run manifest 2> /dev/null
+  rt try "$@" --data "manifest=$here/../examples/add/manifest-in-text" -- run manifest < /dev/null 2> /dev/null
 }
 whole=$(try) || { echo "fail_alloc: the example doesn't run" >&2; exit 1; }
 refusal='jvolve: 6 no memory'

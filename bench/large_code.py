@@ -40,4 +40,5 @@ def main():
     write(sys.argv[1], pool, [], [], methods)
 
 
-main()
+if __name__ == "__main__":
+    main()

@@ -1,9 +1,10 @@
-# Sourced by the scripts here: `prepare CRATE` sets `program`, the program of that crate, and `folder`,
-# which goes when the script ends.
+# Sourced by the scripts here: `prepare CRATE` sets `program`, the program of that crate, or another one
+# that is given after it, and `folder`, which goes when the script ends.
 here=$(cd "$(dirname "$0")" && pwd)
 prepare() {
-  program=$here/../crates/$1/out/$1
+  program=${2:-$here/../crates/$1/out/$1}
   [ -x "$program" ] || { echo "$(basename "$0" .sh): crates/$1 isn't built yet: rt ci, or rt run there" >&2; exit 1; }
+  program=$(realpath "$program")
   folder=$(mktemp -d)
   trap 'rm -rf "$folder"' EXIT
 }
@@ -18,6 +19,14 @@ class_files() {
       mkdir -p "$into" && unzip -qo "$place" '*.class' -d "$into" 2> /dev/null
       find "$into" -name '*.class' -print0
     fi
+  done
+}
+# Compiles each program in `programs` by `javac --release 8` and another word, into a folder of its own in
+# the folder `classes`.
+compile_programs() {
+  local source
+  for source in "$here"/programs/*.java; do
+    javac --release 8 "$1" -d "$folder/classes/$(basename "$source" .java)" "$source" || exit 1
   done
 }
 # The milliseconds that a command takes as a whole process, the least of five runs. What it said is in

@@ -42,9 +42,15 @@ class ClassFile:
     def class_entry(self, name):
         return self.entry(b"\x07" + u2(self.text(name)))
 
-    def field_entry(self, owner, name):
-        pair = self.entry(b"\x0c" + u2(self.text(name), self.text("I")))
-        return self.entry(b"\x09" + u2(self.class_entry(owner), pair))
+    def member_entry(self, tag, owner, name, descriptor):
+        pair = self.entry(b"\x0c" + u2(self.text(name), self.text(descriptor)))
+        return self.entry(bytes([tag]) + u2(self.class_entry(owner), pair))
+
+    def field_entry(self, owner, name, descriptor="I"):
+        return self.member_entry(9, owner, name, descriptor)
+
+    def method_entry(self, owner, name, descriptor):
+        return self.member_entry(10, owner, name, descriptor)
 
     def add_field(self, name):
         """A public static int."""
@@ -53,7 +59,15 @@ class ClassFile:
     def add_method(self, flags, name, descriptor, owner, fields):
         """A method that reads static ints of a class."""
         reads = b"".join(b"\xb2" + u2(self.field_entry(owner, field)) + b"\x57" for field in fields)
-        body = u2(1, 1) + u4(len(reads) + 1) + reads + b"\xb1" + u2(0, 0)
+        self.add_code(flags, name, descriptor, (1, 1), reads + b"\xb1")
+
+    def add_code(self, flags, name, descriptor, sizes, code, rows=(), frames=()):
+        """A method with code of max_stack and max_locals, its exception table and the entries of its stack map."""
+        table = u2(len(frames)) + b"".join(frames)
+        maps = [attribute(self.text("StackMapTable"), table)] if frames else []
+        body = b"".join([
+            u2(*sizes), u4(len(code)), code, u2(len(rows)), *(u2(*row) for row in rows), u2(len(maps)), *maps,
+        ])
         head = u2(flags, self.text(name), self.text(descriptor), 1)
         self.methods.append(head + attribute(self.text("Code"), body))
 
@@ -62,6 +76,9 @@ class ClassFile:
 
     def add_main(self, owner, fields):
         self.add_method(9, "main", "([Ljava/lang/String;)V", owner, fields)
+
+    def length(self):
+        return 24 + sum(map(len, [*self.pool, *self.fields, *self.methods])) + 2 * len(self.interfaces)
 
     def write(self, folder, flags=33):
         path = os.path.join(folder, self.name)
@@ -150,6 +167,12 @@ def interfaces(count, folder):
     return ["Main"]
 
 
+def write_manifest(folder, classes):
+    with open(os.path.join(folder, "manifest"), "w") as manifest:
+        manifest.write("jvolve 1\nmain Main\n")
+        manifest.writelines(f"class {name} {name}\n" for name in classes)
+
+
 def main():
     shape, count, folder = sys.argv[1:]
     shapes = {
@@ -157,10 +180,8 @@ def main():
         "lattice": lattice, "interfaces": interfaces,
     }
     os.makedirs(folder, exist_ok=True)
-    classes = shapes[shape](int(count), folder)
-    with open(os.path.join(folder, "manifest"), "w") as manifest:
-        manifest.write("jvolve 1\nmain Main\n")
-        manifest.writelines(f"class {name} {name}\n" for name in classes)
+    write_manifest(folder, shapes[shape](int(count), folder))
 
 
-main()
+if __name__ == "__main__":
+    main()

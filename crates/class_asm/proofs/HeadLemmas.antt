@@ -1,14 +1,13 @@
 -- A fault of the first line is told before all that stands behind it.
-use Rattle.std.proofs.Common.{◌≡◌, ℕ, zero, suc, ◌+◌, ◌<◌, ◌≤◌, List, [], ◌∷◌, ◌++◌, Bool, true, false, Option, Some, None, Result, Ok, Err, map, drop, length, refl, ap, sym, ◌∙◌, arith, lit≤}
+use Rattle.std.proofs.Common.{◌≡◌, ℕ, zero, suc, ◌+◌, ◌≤◌, List, [], ◌∷◌, ◌++◌, Bool, true, false, Option, Some, None, Result, Ok, Err, map, drop, length, refl, ap, sym, ◌∙◌, arith, lit≤}
 use Rattle.std.specs.Prelude.{◌&&◌, ◌||◌, ◌==◌, IsErrAnd, flat_map, filter_map, nat_le, nat_lt}
-use Rattle.std.specs.List.{cons_option, list_all}
-use Rattle.std.proofs.lemmas.Bool.{le-leb, leb-true}
+use Rattle.std.specs.List.{list_all}
+use Rattle.std.proofs.lemmas.Bool.{leb-true}
 use Rattle.std.proofs.lemmas.Bool.Decides.{nat_tests}
 use Rattle.std.proofs.lemmas.Grind.{flat_map-append}
 use Rattle.std.proofs.lemmas.List.Folds.{list_all-append}
 use Rattle.jv_model.specs.Refusal.{LineKind, not_text, open_block, out_of_range, too_many, wrong_head, wrong_order}
 use Rattle.jv_model.specs.Fallible.{unless}
-use Rattle.jv_model.specs.ClassData.{ClassData}
 use Rattle.jv_model.specs.Lines.{Line, lines_of, words_of}
 use Rattle.jv_model.specs.Utf16.{units_of_utf8}
 use Rattle.text_model.specs.LineFaults.{Fault, at_line, first_fault, is_before, is_text, rank, unless_true, where_true}

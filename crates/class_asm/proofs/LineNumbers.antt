@@ -1,10 +1,10 @@
 -- Lines behind a text's first have numbers from 2 on.
-use Rattle.std.proofs.Common.{◌≡◌, ℕ, ◌+◌, ◌≤◌, List, [], ◌∷◌, ◌++◌, Bool, true, false, Option, Some, None, map, refl, ap, sym, ◌∙◌, arith}
+use Rattle.std.proofs.Common.{◌≡◌, ℕ, ◌+◌, List, [], ◌∷◌, Bool, true, false, Option, Some, None, map, refl, arith}
 use Rattle.std.specs.Prelude.{◌&&◌, if◌then◌else◌, nat_le, bytes_eq}
 use Rattle.std.specs.List.{list_all}
 use Rattle.std.proofs.lemmas.Bool.{leb-true, le-leb}
 use Rattle.jv_model.specs.Lines.{Line}
-use Rattle.assembler_model.specs.AssemblerLines.{NumberedLine, line_form, numbered, numbered_from}
+use Rattle.assembler_model.specs.AssemblerLines.{NumberedLine, line_form, numbered_from}
 use Rattle.assembler_model.specs.AssemblerOrder.{Part, method_end, part_of, parts_of}
 use Rattle.assembler_model.specs.Blocks.{Chunk, Cut, chunks_of, cut}
 use Rattle.asm_parts.proofs.UnitLemmas.{both}

@@ -1,8 +1,8 @@
 -- What lines outside methods say, part by part.
-use Rattle.std.proofs.Common.{◌≡◌, ℕ, zero, suc, ◌+◌, ◌<◌, length, get_or, take, add-one, arith, List, [], ◌∷◌, ◌++◌, Bool, true, false, Option, Some, None, Result, Ok, Err, map, option_map, refl, ap, sym, ◌∙◌}
-use Rattle.std.specs.Prelude.{codes, filter_map, slice_get, unwrap_or}
-use Rattle.std.specs.List.{cons_option, list_all}
-use Rattle.std.proofs.lemmas.List.{append-nil, map-append}
+use Rattle.std.proofs.Common.{◌≡◌, ℕ, zero, suc, ◌+◌, ◌<◌, length, get_or, take, add-one, arith, List, [], ◌∷◌, ◌++◌, Option, Some, None, Result, map, option_map, refl, ap, sym, ◌∙◌}
+use Rattle.std.specs.Prelude.{codes, slice_get, unwrap_or}
+use Rattle.std.specs.List.{cons_option}
+use Rattle.std.proofs.lemmas.List.{map-append}
 use Rattle.std.proofs.lemmas.List.Elements.{filter_map-append}
 use Rattle.jv_model.specs.Refusal.{LineKind}
 use Rattle.assembler_model.specs.AssemblerTerms.{AssemblerLine, ConstantText}

@@ -1,5 +1,5 @@
 -- Classes that were read, with the bytes of all class files up to there.
-use Rattle.std.specs.Prelude.{ℕ, List, Option, map}
+use Rattle.std.specs.Prelude.{ℕ}
 use Rattle.jv_model.specs.ClassData as files
 use Rattle.jv_model.specs.LoadedClass as model
 use Rattle.code_model.specs.CodeReading.{load_of}

@@ -1,5 +1,6 @@
 -- What items bring to the classes of the items before them.
-use Rattle.std.specs.Prelude.{◌≡◌, ℕ, ◌+◌, List, [], ◌∷◌, ◌++◌, IfSome, Result, MatchResult, map}
+use Rattle.std.specs.Prelude.{◌≡◌, ℕ, ◌+◌, List, ◌∷◌, ◌++◌, IfSome, Result, MatchResult, map}
+use Rattle.std.specs.List.{AllByRecursion}
 use Rattle.jv_model.specs.LoadedClass.{LoadedClass}
 use Rattle.jv_model.specs.Outside.{Folder}
 use Rattle.jv_types.specs.declared.loaded.Loaded.{Loaded}
@@ -7,6 +8,7 @@ use Rattle.jv_types.specs.Loaded.{loaded_of}
 use Rattle.jv_types.specs.Sequence.{Sequence}
 use Rattle.manifest_model.specs.Items.{ClassItem}
 use Rattle.manifest_model.specs.Manifest.{ManifestItem, class_item}
+use Rattle.linked_laws.specs.Worlds.{IsReadClass}
 use Rattle.load_model.specs.Loading.{Answer, loads, refuses, misses, Loading, behind_names}
 use Rattle.load_model.specs.LoadItems.{load_items}
 use Rattle.load_model.specs.Reads.{Read}
@@ -19,6 +21,10 @@ classes_of classes = map loaded_of classes
 
 abbrev pub classes_in : Sequence Loaded → List LoadedClass
 classes_in classes = classes_of classes.items
+
+-- they are of the profile, with the code that their files have
+abbrev pub AreRead : Sequence Loaded → Type 0
+AreRead classes = AllByRecursion IsReadClass (classes_in classes)
 
 -- these classes, and then what loading comes to
 abbrev pub answer_behind : List LoadedClass → Answer (List LoadedClass) → Answer (List LoadedClass)

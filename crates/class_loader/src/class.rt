@@ -3,8 +3,11 @@
 ghost use Rattle.std.specs.Prelude.{◌≡◌, ◌≤◌, ◌+◌, length, IfOk};
 ghost use Rattle.jv_model.specs.ClassReading.{class_of};
 ghost use Rattle.jv_model.specs.Limits.{most_file_bytes, most_all_files_bytes};
+ghost use Rattle.jv_model.specs.Profile.{IsInProfile};
 ghost use Rattle.manifest_model.specs.Items.{in_file};
 ghost use Rattle.assembler_model.specs.AssembledClass.{assembled};
+ghost use Rattle.manifest_laws.specs.Laws.{FormIsWithin};
+ghost use Rattle.linked_laws.specs.Worlds.{IsReadClass};
 ghost use Rattle.load_model.specs.Loading.{placed, answers};
 ghost use Rattle.load_model.specs.LoadClasses.{total_within, or_line, class_in_bytes, class_in_lines, class_data, where_named, class_of_item, load_class};
 ghost use Rattle.jv_types.specs.ClassData.{class_data_of};
@@ -66,7 +69,8 @@ fn add_bytes(number: u32, before: u64, count: u64) -> Result<u64, Stop>
 
 /// What the bytes of a class file say.
 fn read_bytes(alloc: Global, number: u32, bytes: &[u8]) -> Result<ClassData, Stop>
-    ensures { IsPlaced class_data_of result (placed number 0 (class_of bytes.now)) }
+    ensures class { IsPlaced class_data_of result (placed number 0 (class_of bytes.now)) }
+    ensures profile { IfOk result (λ file. IsInProfile (class_data_of file)) }
 {
     match read_class(alloc, bytes) {
         Ok(file) => Ok(file),
@@ -77,7 +81,9 @@ fn read_bytes(alloc: Global, number: u32, bytes: &[u8]) -> Result<ClassData, Sto
 /// What the lines of an assembler text say: of an item's block, or of a text of its own, whose
 /// number is 0.
 pub fn read_lines(alloc: Global, number: u32, text: &[u8]) -> Result<ClassData, Stop>
-    ensures { IsPlaced class_data_of result (placed number 0 (or_line (assembled text.now))) }
+    ensures class { IsPlaced class_data_of result (placed number 0 (or_line (assembled text.now))) }
+    ensures profile { length text.now ≤ most_file_bytes
+        → IfOk result (λ file. IsInProfile (class_data_of file)) }
 {
     match assemble(alloc, text) {
         Ok(file) => Ok(file),
@@ -90,6 +96,7 @@ fn class_in_bytes(alloc: Global, number: u32, before: u64, bytes: &[u8]) -> Resu
     requires before { before ≤ most_all_files_bytes }
     requires count { length bytes.now ≤ most_file_bytes }
     ensures read { IsPlaced class_read result (class_in_bytes number before bytes.now) }
+    ensures profile { IfOk result (λ read. IsInProfile (class_data_of read.file)) }
     ensures within { IfOk result (λ read. read.bytes ≤ most_all_files_bytes) }
 {
     let total = add_bytes(number, before, bytes.len() as u64)?;
@@ -101,6 +108,8 @@ fn class_in_bytes(alloc: Global, number: u32, before: u64, bytes: &[u8]) -> Resu
 fn class_in_lines(alloc: Global, number: u32, before: u64, text: &[u8]) -> Result<ReadClass, Stop>
     requires before { before ≤ most_all_files_bytes }
     ensures read { IsPlaced class_read result (class_in_lines number before text.now) }
+    ensures profile { length text.now ≤ most_file_bytes
+        → IfOk result (λ read. IsInProfile (class_data_of read.file)) }
     ensures within { IfOk result (λ read. read.bytes ≤ most_all_files_bytes) }
 {
     let file = read_lines(alloc, number, text)?;
@@ -121,6 +130,7 @@ fn class_in_file<F: Files>(
     requires { before ≤ most_all_files_bytes }
     ensures loaded { IsLoaded class_read result (read F.folder F.asked F.faults files.old files.new)
         (λ folder. class_data folder number before (in_file name.now)) }
+    ensures profile { IfOk result (λ read. IsInProfile (class_data_of read.file)) }
     ensures folder { F.folder files.new ≡ F.folder files.old }
     ensures within { IfOk result (λ read. read.bytes ≤ most_all_files_bytes) }
 {
@@ -139,6 +149,8 @@ fn class_data<F: Files>(
     requires { before ≤ most_all_files_bytes }
     ensures loaded { IsLoaded class_read result (read F.folder F.asked F.faults files.old files.new)
         (λ folder. class_data folder number before (form_of form.entry)) }
+    ensures profile { FormIsWithin most_file_bytes (form_of form.entry)
+        → IfOk result (λ read. IsInProfile (class_data_of read.file)) }
     ensures folder { F.folder files.new ≡ F.folder files.old }
     ensures within { IfOk result (λ read. read.bytes ≤ most_all_files_bytes) }
 {
@@ -150,8 +162,9 @@ fn class_data<F: Files>(
 
 /// A class that was read, under the name that its item's line says.
 fn where_named(alloc: Global, asked: &ClassItem<'_>, class: Loaded) -> Result<Loaded, Stop>
-    ensures { IsPlaced loaded_of result
+    ensures class { IsPlaced loaded_of result
         (answers (where_named (item_of asked.now) (loaded_of class))) }
+    ensures same { IfOk result (λ found. found ≡ class) }
 {
     let wanted = units(alloc, asked.class)?;
     if class_name(&class.file) == wanted.as_slice() {
@@ -169,7 +182,9 @@ fn where_named(alloc: Global, asked: &ClassItem<'_>, class: Loaded) -> Result<Lo
 
 /// The code of what was read.
 fn load_codes(alloc: Global, number: u32, file: ClassData) -> Result<Loaded, Stop>
-    ensures { IsPlaced loaded_of result (codes_in number (class_data_of file)) }
+    ensures class { IsPlaced loaded_of result (codes_in number (class_data_of file)) }
+    ensures read { IsInProfile (class_data_of file)
+        → IfOk result (λ class. IsReadClass (loaded_of class)) }
 {
     match load_class(alloc, file) {
         Ok(class) => Ok(class),
@@ -187,6 +202,8 @@ fn class_of_item(
     requires { read.bytes ≤ most_all_files_bytes }
     ensures class { IsPlaced class_loaded result
         (class_of_item number (item_of asked.now) (class_read read)) }
+    ensures read { IsInProfile (class_data_of read.file)
+        → IfOk result (λ loaded. IsReadClass (loaded_of loaded.class)) }
     ensures within { IfOk result (λ loaded. loaded.bytes ≤ most_all_files_bytes) }
 {
     let ReadClass { file, bytes } = read;
@@ -206,6 +223,8 @@ pub(crate) fn load_item<F: Files>(
     requires { before ≤ most_all_files_bytes }
     ensures loaded { IsLoaded class_loaded result (read F.folder F.asked F.faults files.old files.new)
         (λ folder. load_class folder number before (item_of asked.now)) }
+    ensures read { FormIsWithin most_file_bytes (item_of asked.now).form
+        → IfOk result (λ loaded. IsReadClass (loaded_of loaded.class)) }
     ensures folder { F.folder files.new ≡ F.folder files.old }
     ensures within { IfOk result (λ loaded. loaded.bytes ≤ most_all_files_bytes) }
 {

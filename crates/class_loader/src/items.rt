@@ -1,12 +1,13 @@
 //! The items of a manifest.
 
-ghost use Rattle.std.specs.Prelude.{◌≡◌, ◌≤◌, ◌<◌, ◌+◌, ◌^◌, map, length};
-ghost use Rattle.jv_model.specs.Limits.{most_all_files_bytes};
+ghost use Rattle.std.specs.Prelude.{◌≡◌, ◌≤◌, ◌<◌, ◌+◌, ◌^◌, All, IfOk, OnOk, map, length};
+ghost use Rattle.jv_model.specs.Limits.{most_file_bytes, most_all_files_bytes};
+ghost use Rattle.manifest_laws.specs.Laws.{BlockIsWithin, FormIsWithin};
 ghost use Rattle.load_model.specs.LoadItems.{load_items};
 ghost use Rattle.manifest_reader.specs.Items.{item_of, class_of};
 ghost use Rattle.class_loader.specs.Outside.{read};
 ghost use Rattle.class_loader.specs.Loads.{IsLoaded};
-ghost use Rattle.class_loader.specs.Items.{classes_of, classes_in, AddsClass, AddsItem};
+ghost use Rattle.class_loader.specs.Items.{classes_in, AreRead, AddsClass, AddsItem};
 
 use crate::class::load_item;
 use crate::stop::Stop;
@@ -34,6 +35,8 @@ fn add_class<F: Files>(
     requires { gathered.old.bytes ≤ most_all_files_bytes }
     ensures class { AddsClass result (read F.folder F.asked F.faults files.old files.new) number
         (class_of item.now) gathered.old gathered.new }
+    ensures read { FormIsWithin most_file_bytes (class_of item.now).form
+        → OnOk result (AreRead gathered.old.classes → AreRead gathered.new.classes) }
     ensures folder { F.folder files.new ≡ F.folder files.old }
     ensures within { gathered.new.bytes ≤ most_all_files_bytes }
 {
@@ -54,6 +57,8 @@ fn add_item<F: Files>(
     requires { gathered.old.bytes ≤ most_all_files_bytes }
     ensures item { AddsItem result (read F.folder F.asked F.faults files.old files.new) number
         (item_of item.now) gathered.old gathered.new }
+    ensures read { BlockIsWithin most_file_bytes (item_of item.now)
+        → OnOk result (AreRead gathered.old.classes → AreRead gathered.new.classes) }
     ensures folder { F.folder files.new ≡ F.folder files.old }
     ensures within { gathered.new.bytes ≤ most_all_files_bytes }
 {
@@ -74,6 +79,12 @@ pub fn load_items<F: Files>(
 ) -> Result<List<Loaded>, Stop>
     ensures loaded { IsLoaded classes_in result (read F.folder F.asked F.faults files.old files.new)
         (λ folder. load_items folder 1 0 (map item_of items.now.items)) }
+
+    // Whatever files hold, the classes are ones of the profile with the code that their files have,
+    // where no block is longer than a file may be.
+    ensures read { All (BlockIsWithin most_file_bytes) (map item_of items.now.items)
+        → IfOk result AreRead }
+
     ensures folder { F.folder files.new ≡ F.folder files.old }
 {
     let mut gathered = Gathered {

@@ -1,7 +1,7 @@
 -- Codes of methods, one more.
-use Rattle.std.proofs.Common.{◌≡◌, ℕ, zero, suc, ◌+◌, ◌<◌, ◌≤◌, Bool, true, false, if◌then◌else◌, List, [], ◌∷◌, ◌++◌, Option, Some, None, inl, inr, is_some, length, map, filter, take, drop, slice_get, option_map, option_and_then, ap, sym, ◌∙◌, refl, arith}
+use Rattle.std.proofs.Common.{◌≡◌, ℕ, zero, suc, ◌+◌, ◌<◌, Bool, true, false, if◌then◌else◌, List, [], ◌∷◌, ◌++◌, Option, Some, None, inl, inr, is_some, length, map, filter, take, slice_get, option_map, option_and_then, ap, sym, ◌∙◌, refl, arith}
 use Rattle.std.proofs.lemmas.Bool.{cases_lt}
-use Rattle.std.proofs.lemmas.List.{length-append, length-map, take_more, take-append-drop}
+use Rattle.std.proofs.lemmas.List.{length-append, length-map, take_more}
 use Rattle.std.proofs.lemmas.List.Elements.{filter-append}
 use Rattle.std.proofs.lemmas.Option.{slice_get_within, get_or_from_slice_get}
 use Rattle.jv_model.specs.ClassData.{Const, Member}
@@ -105,14 +105,6 @@ module _ (methods : List Method) (index : ℕ) (m : Method) (there : slice_get m
       ∙ length-append (filter is_coded (take index methods)) (filter is_coded (m ∷ []))
       ∙ ap (λ (n : ℕ). code_count (take index methods) + n) (filter_one m b is)
 
-  pub no_more : code_count (take index methods) + count_of b ≤ code_count methods
-  no_more =
-      let whole : code_count methods ≡ code_count (take (index + 1) methods) + code_count (drop (index + 1) methods) =
-      ap code_count (sym (take-append-drop (index + 1) methods))
-      ∙ ap (λ (l : List Method). length l) (filter-append is_coded (take (index + 1) methods) (drop (index + 1) methods))
-      ∙ length-append (filter is_coded (take (index + 1) methods)) (filter is_coded (drop (index + 1) methods)) in
-      omega (arith, whole, one_code)
-
   marked : (base version : ℕ) → mark_if b (base + code_count (take index methods)) version ≡ mark_for methods base version index
   marked base version =
       ap (λ (t : Bool). mark_if t (base + code_count (take index methods)) version) is
@@ -138,12 +130,12 @@ marks_begin methods base version row body none is = record {
     first_none [] = refl
     first_none (m ∷ ms) = refl
 
-still_there : {A : Type 0} (xs ys : List A) (i : ℕ) (x : A) → slice_get xs i ≡ Some x → slice_get (xs ++ ys) i ≡ Some x
+pub still_there : {A : Type 0} (xs ys : List A) (i : ℕ) (x : A) → slice_get xs i ≡ Some x → slice_get (xs ++ ys) i ≡ Some x
 still_there [] ys i x at = absurd cc
 still_there (y ∷ xs) ys zero x at = at
 still_there (y ∷ xs) ys (suc i) x at = still_there xs ys i x at
 
-last_there : {A : Type 0} (xs : List A) (x : A) (i : ℕ) → length xs ≡ i → slice_get (xs ++ x ∷ []) i ≡ Some x
+pub last_there : {A : Type 0} (xs : List A) (x : A) (i : ℕ) → length xs ≡ i → slice_get (xs ++ x ∷ []) i ≡ Some x
 last_there [] x zero is = refl
 last_there [] x (suc i) is = absurd (omega arith)
 last_there (y ∷ xs) x zero is = absurd (omega arith)

@@ -1,19 +1,17 @@
 -- Marks of the code of methods.
-use Rattle.std.specs.Prelude.{◌≡◌, ℕ, ◌+◌, ◌<◌, List, [], ◌∷◌, ◌++◌, Bool, Option, Some, None, if◌then◌else◌, is_some, length, filter, take, slice_get, option_and_then}
-use Rattle.world_model.specs.World.{Method}
+use Rattle.std.specs.Prelude.{◌≡◌, ℕ, ◌+◌, ◌<◌, List, [], ◌∷◌, ◌++◌, Bool, Option, Some, None, if◌then◌else◌, is_some, length, filter, filter_map, flat_map, take, slice_get, option_and_then}
+use Rattle.jv_model.specs.Operand.{Operand}
+use Rattle.jv_model.specs.Code.{Body}
+use Rattle.world_model.specs.World.{World, Class, Method}
+use Rattle.world_model.specs.LookUp.{Found}
 use Rattle.jv_types.specs.declared.number.MethodNo.{MethodNo}
-use Rattle.class_world.specs.World.{class_of_origin}
+use Rattle.class_world.specs.World.{class_of_origin, method_at}
 use Rattle.class_world.specs.declared.class_info.Origin.{Origin}
-use Rattle.class_world.specs.declared.class_info.Origin.TheVariants.{Boot, Program}
 use Rattle.code_store.specs.declared.mark.CodeMark.{CodeMark}
 
--- the methods of a class, which name no class by number, and the number of its first code
+-- the methods of a class, which name no class by number
 abbrev pub methods_in : Origin → List Method
 methods_in origin = (class_of_origin [] origin).methods
-
-abbrev pub base_of : Origin → ℕ
-base_of (Boot class) = 0
-base_of (Program loaded) = loaded.base
 
 abbrev pub is_coded : Method → Bool
 is_coded method = is_some method.code
@@ -52,3 +50,32 @@ abbrev pub mark_at : Rows → MethodNo → Option CodeMark
 mark_at rows method =
     option_and_then (λ (o : Option CodeMark). o)
     (option_and_then (λ (row : List (Option CodeMark)). slice_get row method.index) (slice_get rows method.class.0))
+
+-- ---- the marks of a world
+
+-- the codes of the methods of classes, class by class
+abbrev pub class_codes : Class → List (Body Operand)
+class_codes class = filter_map (λ (m : Method). m.code) class.methods
+
+abbrev pub codes_of : List Class → List (Body Operand)
+codes_of classes = flat_map class_codes classes
+
+-- how many codes the classes before that number have
+abbrev pub codes_before : World → ℕ → ℕ
+codes_before world class = length (codes_of (take class world.classes))
+
+-- There are the marks of each class, whose first code is the next one after those of the classes before it; all are of
+-- version 0.
+pub record AreWorldMarks (world : World) (rows : Rows) : Type 0 where
+  pub count : length rows ≡ length world.classes
+  pub each : (class : ℕ) (c : Class) (row : List (Option CodeMark)) → slice_get world.classes class ≡ Some c
+      → slice_get rows class ≡ Some row → AreMarks c.methods (codes_before world class) 0 row
+
+-- what a mark shows of these codes
+abbrev pub shown : List (Body Operand) → Option CodeMark → Option (Body Operand)
+shown codes mark = option_and_then (λ (m : CodeMark). slice_get codes m.body) mark
+
+-- The mark of each method shows the method's code, and a method without code has none.
+abbrev pub ShowCodes : World → Rows → Type 0
+ShowCodes world rows = (method : MethodNo) (found : Found Method) → method_at world method ≡ Some found
+    → shown (codes_of world.classes) (mark_at rows method) ≡ found.member.code

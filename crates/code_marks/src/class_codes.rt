@@ -2,20 +2,10 @@
 
 ghost use Rattle.std.specs.Prelude.{◌≡◌, ◌<◌, Some, is_some, length, option_and_then, slice_get};
 ghost use Rattle.world_model.specs.World.{Method};
-ghost use Rattle.code_marks.specs.Marks.{base_of, methods_in};
+ghost use Rattle.code_marks.specs.Marks.{methods_in};
 
 use class_world::Origin;
 use jv_types::{CodeBody, List};
-
-/// The number of the first code of a class.
-pub fn base(origin: &Origin) -> u32
-    ensures { result ≡ base_of origin.now }
-{
-    match origin {
-        Origin::Boot(_) => 0,
-        Origin::Program(loaded) => loaded.base,
-    }
-}
 
 /// How many methods a class declares.
 pub fn method_count(origin: &Origin) -> u32

@@ -1,5 +1,6 @@
 -- what code reads
 pub mod Words
+pub mod Programs
 pub mod Loads
 -- what it does
 pub mod Outside

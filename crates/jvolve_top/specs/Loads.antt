@@ -1,5 +1,4 @@
 -- What is loaded, as the definitions see it.
-use Rattle.std.specs.Prelude.{List}
 use Rattle.straight_line_model.specs.StraightLine.{IsStraightLine}
 use Rattle.straight_line.specs.Body.{body_of}
 use Rattle.straight_line.specs.Programs.{program}

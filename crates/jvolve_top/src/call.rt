@@ -135,10 +135,11 @@ fn do_work<O: Sink, R: Sink, J: Sink>(
     }
 }
 
-/// Does what the words ask for. `run MANIFEST` runs the program that the manifest and its class
-/// file say; it writes the output to `out`, then the report to `report`, then the journal's text to
-/// `trace`. `asm FILE` writes the bytes of the class file of an assembler text to `out`. It always
-/// returns.
+/// Does what the words ask for. `run MANIFEST` links and verifies the program that the manifest and
+/// its class files say, and runs it; it writes the output to `out`, then the report to `report`,
+/// then the journal's text to `trace`. `check MANIFEST` links and verifies it alone, and writes to
+/// `out` how many classes it has. `asm FILE` writes the bytes of the class file of an assembler text
+/// to `out`. It always returns.
 ///
 /// `Reply` tells the status, the journal and the shares; the clause says of what they, and the
 /// bytes at the sinks, are a function, which files are asked for, and when each status comes.

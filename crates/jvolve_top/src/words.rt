@@ -9,6 +9,8 @@ ghost use Rattle.jvolve_top.specs.Words.{invocation_view, words_view};
 pub(crate) enum Invocation<'a> {
     /// To run the program of the manifest in this file.
     Run { manifest: &'a str },
+    /// To link and verify it, and to tell of it.
+    Check { manifest: &'a str },
     /// To write the class file of the assembler text in this file.
     Asm { file: &'a str },
 }
@@ -19,6 +21,7 @@ pub(crate) fn read_words<'a>(words: &[&'a str]) -> Option<Invocation<'a>>
 {
     match words {
         [mode, manifest] if *mode == "run" => Some(Invocation::Run { manifest }),
+        [mode, manifest] if *mode == "check" => Some(Invocation::Check { manifest }),
         [mode, file] if *mode == "asm" => Some(Invocation::Asm { file }),
         _ => None,
     }

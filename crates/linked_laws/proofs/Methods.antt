@@ -145,7 +145,7 @@ not_code class none k method body at code =
 -- What holds of the code of each method of the program's classes holds of all code.
 module _ (world : World) (linked : IsLinkedWorld world) (Q : Class → Method → Body Operand → Type 0)
     (each : (l : LoadedClass) → IsOfProgram world l → (k : ℕ) (method : Method) → slice_get (class_of l).methods k ≡ Some method
-        → (raw : Body ℕ) → slice_get l.codes k ≡ Some (Some raw) → Q (class_of l) method (named l.file.pool method.descriptor raw)) where
+    → (raw : Body ℕ) → slice_get l.codes k ≡ Some (Some raw) → Q (class_of l) method (named l.file.pool method.descriptor raw)) where
   abbrev OfMethod : Class → Method → Type 0
   OfMethod class method = (body : Body Operand) → method.code ≡ Some body → Q class method body
 

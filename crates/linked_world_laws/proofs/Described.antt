@@ -55,7 +55,7 @@ both_none [] ys e = (refl, e)
 both_none (x ∷ xs) ys e = absurd cc
 
 -- where lists come to none, each is none
-each_none : {A B : Type 0} (f : A → List B) (xs : List A) → flat_map f xs ≡ [] → AllByRecursion (λ x. f x ≡ []) xs
+pub each_none : {A B : Type 0} (f : A → List B) (xs : List A) → flat_map f xs ≡ [] → AllByRecursion (λ x. f x ≡ []) xs
 each_none f [] e = tt
 each_none f (x ∷ xs) e = let parts = both_none (f x) (flat_map f xs) e in (parts.0, each_none f xs parts.1)
 

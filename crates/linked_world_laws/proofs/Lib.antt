@@ -17,3 +17,4 @@ pub mod UsesThere
 pub mod StringsAlone
 pub mod Beginning
 pub mod Constants
+pub mod BootThere

@@ -3,8 +3,8 @@
 ghost use Rattle.linked_world_laws.specs.Laws.{WorldsAreOrderly, CodeStandsRight, FramesAreSmall};
 ghost use Rattle.linked_world_laws.specs.Laws.{BootClassesAreThere, InstructionsUseWhatIsThere};
 
-/// No class is above itself, each class above another is there, nothing is above java/lang/Object, and
-/// above an interface are interfaces and that class.
+/// No class is above itself, each class above another is there, nothing is above java/lang/Object,
+/// and above an interface are interfaces and that class.
 pub fn worlds_are_orderly()
     ensures { WorldsAreOrderly }
 {}
@@ -25,9 +25,9 @@ pub fn boot_classes_are_there()
     ensures { BootClassesAreThere }
 {}
 
-/// Each instruction of a method uses what is there, and of the kind that it wants: fields have places in
-/// the objects that may stand there, calls lead to methods that can be run, and `new` makes objects of
-/// classes, where it names no array.
+/// Each instruction of a method uses what is there, and of the kind that it wants: fields have
+/// places in the objects that may stand there, calls lead to methods that can be run, and `new`
+/// makes objects of classes, where it names no array.
 pub fn instructions_use_what_is_there()
     ensures { InstructionsUseWhatIsThere }
 {}

@@ -4,6 +4,8 @@ use Rattle.std.specs.Prelude.{ℕ, List, [], ◌∷◌, Option, Some, None, if�
 pub data Invocation : Type 0 where
   -- `run MANIFEST`
   run_of : List ℕ → Invocation
+  -- `check MANIFEST`
+  check_of : List ℕ → Invocation
   -- `asm FILE`
   asm_of : List ℕ → Invocation
 
@@ -11,6 +13,7 @@ pub data Invocation : Type 0 where
 abbrev pub asked_in : List ℕ → List ℕ → Option Invocation
 asked_in mode operand =
     if bytes_eq mode (codes "run") then Some (run_of operand)
+    else if bytes_eq mode (codes "check") then Some (check_of operand)
     else if bytes_eq mode (codes "asm") then Some (asm_of operand)
     else None
 

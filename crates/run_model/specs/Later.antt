@@ -1,75 +1,63 @@
--- What this version runs of the programs that load: one class whose main is a straight line. All others are refused
--- as input of a form that isn't built yet.
-use Rattle.std.specs.Prelude.{ℕ, List, [], ◌∷◌, Bool, true, false, ◌&&◌, ◌||◌, not, if◌then◌else◌, ◌==◌, nat_le, Option, Some, None, bytes_eq, codes, length, take}
-use Rattle.std.specs.List.{list_all}
+-- What this version runs of the programs that link and verify: one class that has main, constructors and no other
+-- methods, and whose main is a straight line. It checks those that have no updates. All others are refused as input
+-- of a form that isn't built yet.
+use Rattle.std.specs.Prelude.{List, [], ◌∷◌, Bool, ◌&&◌, ◌||◌, not, if◌then◌else◌, Option, Some, None, is_some, option_map, codes, bytes_eq}
+use Rattle.std.specs.List.{list_all, list_any}
 use Rattle.jv_model.specs.Partial.{◌>>=◌}
 use Rattle.jv_model.specs.Refusal.{later}
-use Rattle.jv_model.specs.ClassData.{Member, ClassData}
-use Rattle.jv_model.specs.ConstantPool.{is_named}
+use Rattle.jv_model.specs.Operand.{Operand}
 use Rattle.jv_model.specs.Code as code
-use Rattle.jv_model.specs.LoadedClass.{LoadedClass}
-use Rattle.manifest_model.specs.Manifest.{ManifestItem, class_item, update_item, Manifest}
+use Rattle.world_model.specs.BootNames.{is_constructor_name}
+use Rattle.world_model.specs.World.{Field, Method, Class, is_static_field, declared_method, user_classes}
 use Rattle.load_model.specs.Loading.{Loading, refuses, answers, yields}
-use Rattle.load_model.specs.LoadClasses.{name_of}
 use Rattle.straight_line_model.specs.Instruction.{Body}
 use Rattle.straight_line_model.specs.Machine.{Program}
-use Rattle.run_model.specs.MainCode.{names_class, straight_body}
+use Rattle.run_model.specs.LoadProgram.{VerifiedProgram}
+use Rattle.run_model.specs.MainCode.{straight_body}
 
--- ---- the class
+-- ---- the main class
 
-abbrev pub begins_with : List ℕ → List ℕ → Bool
-begins_with front name = bytes_eq (take (length front) name) front
+-- a static field that has a String from its ConstantValue (JVMS 4.7.2)
+abbrev pub begins_as_string : Field → Bool
+begins_as_string field =
+    is_static_field field && bytes_eq field.descriptor (codes "Ljava/lang/String;")
+    && is_some field.constant
 
--- a name that only the machine's own classes have
-abbrev pub is_reserved : List ℕ → Bool
-is_reserved name =
-    begins_with (codes "java/") name || begins_with (codes "jvolve/") name || begins_with (codes "jvold/") name
+-- a method named main with its descriptor (JLS 12.1.4)
+abbrev pub is_main : Method → Bool
+is_main method =
+    bytes_eq method.name (codes "main") && bytes_eq method.descriptor (codes "([Ljava/lang/String;)V")
 
--- It has the main class's name, which is none of the machine's own, and nothing above or beside its methods.
-abbrev pub is_main_class : List ℕ → LoadedClass → Bool
-is_main_class main class =
-    bytes_eq (name_of class) main && not (is_reserved main)
-    && names_class class.file.pool (codes "java/lang/Object") class.file.super_class
-    && (length class.file.interfaces == 0) && (length class.file.fields == 0)
+abbrev pub is_main_or_constructor : Method → Bool
+is_main_or_constructor method = is_main method || is_constructor_name method.name
 
--- ---- its methods
+abbrev pub has_main_alone : Class → Bool
+has_main_alone class =
+    list_all is_main_or_constructor class.methods && not (list_any begins_as_string class.fields)
 
--- public, static, and named main (JVMS 12.1.4 of the language)
-abbrev pub is_main : ClassData → Member → Bool
-is_main file method =
-    (method.flags == 9) && is_named file.pool (codes "main") method.name
-    && is_named file.pool (codes "([Ljava/lang/String;)V") method.descriptor
+-- the code of main
+abbrev pub code_of_main : Class → Option (code.Body Operand)
+code_of_main class =
+    declared_method (codes "main") (codes "([Ljava/lang/String;)V") class >>= λ method. method.code
 
--- it has a place for the argument, and neither handlers nor frames of a stack map
-abbrev pub is_plain : code.Body ℕ → Bool
-is_plain body =
-    nat_le 1 body.max_locals && (length body.handlers == 0) && (length body.frames == 0)
-
-abbrev pub where_plain : ClassData → code.Body ℕ → Option Body
-where_plain file body = if is_plain body then straight_body file.pool body else None
-
--- the code of the methods, which are main alone
-abbrev pub main_code : ClassData → List Member → List (Option (code.Body ℕ)) → Option Body
-main_code file (method ∷ []) (Some body ∷ []) = if is_main file method then where_plain file body else None
-main_code file methods codes = None
+-- it, where this version runs it
+abbrev pub main_code : Class → Option Body
+main_code class = code_of_main class >>= straight_body
 
 -- ---- the program
 
-abbrev pub brings_class : ManifestItem → Bool
-brings_class (class_item item) = true
-brings_class (update_item item) = false
-
-abbrev pub main_body : List ℕ → List LoadedClass → Option Body
-main_body main (class ∷ []) =
-    if is_main_class main class then main_code class.file class.file.methods class.codes else None
-main_body main classes = None
-
-abbrev pub program_of : Manifest → List LoadedClass → Option Program
-program_of manifest classes =
-    if list_all brings_class manifest.items
-    then (main_body manifest.main classes >>= λ body. Some (record { main = body })) else None
+-- the code of main, where these are all classes of a program that can be started
+abbrev pub main_body : List Class → Option Body
+main_body (class ∷ []) = if has_main_alone class then main_code class else None
+main_body classes = None
 
 -- the program, where this version runs it
-abbrev pub unless_later : Option Program → Loading Program
-unless_later (Some program) = yields program
+abbrev pub program_of : VerifiedProgram → Option Program
+program_of verified =
+    if verified.has_updates then None
+    else option_map (λ body. record { main = body }) (main_body (user_classes verified.world))
+
+-- what there is, or a refusal of the whole program
+abbrev pub unless_later : {A : Type 0} → Option A → Loading A
+unless_later (Some x) = yields x
 unless_later None = answers (refuses 0 0 later)

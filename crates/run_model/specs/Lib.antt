@@ -1,9 +1,10 @@
 -- the words of a call
 pub mod Invocation
 -- loading
+pub mod LoadProgram
 pub mod MainCode
 pub mod Later
-pub mod LoadProgram
+pub mod CheckText
 -- runs
 pub mod Journal
 pub mod RoundRobin

@@ -1,45 +1,33 @@
--- The code of a main method, where this version runs all of it: a straight line.
-use Rattle.std.specs.Prelude.{ℕ, List, [], ◌∷◌, Bool, true, false, ◌&&◌, if◌then◌else◌, ◌==◌, nat_lt, Option, Some, None, option_map, codes}
+-- The code of a main method, where this version runs all of it: no instruction of it branches, throws or leaves the
+-- method but by `return`.
+use Rattle.std.specs.Prelude.{ℕ, ◌+◌, List, [], ◌∷◌, Bool, false, ◌&&◌, if◌then◌else◌, Option, Some, None, option_map, bytes_eq, codes}
 use Rattle.jv_model.specs.Partial.{◌>>=◌}
-use Rattle.jv_model.specs.ClassData.{Const, integer, class, fieldref, methodref, name_and_type}
-use Rattle.jv_model.specs.ConstantPool.{const_at, is_named}
+use Rattle.jv_model.specs.Operand.{MemberReference, Operand, member_named, int_constant}
 use Rattle.jv_model.specs.Instruction as methods
 use Rattle.jv_model.specs.Code as code
 use Rattle.straight_line_model.specs.IntOperation.{IntOperation, add, subtract, multiply, conjunction, disjunction, exclusive_disjunction}
 use Rattle.straight_line_model.specs.Instruction.{Instruction, constant, arithmetic, negate, pop, get_out, print_line, return, Placed, Body}
-use Rattle.straight_line_model.specs.StraightLine.{is_straight}
+use Rattle.straight_line_model.specs.StraightLine.{is_return}
 
--- ---- what indices name
+-- ---- what operands name
 
-abbrev pub is_class : List Const → List ℕ → Const → Bool
-is_class pool text (class name) = is_named pool text name
-is_class pool text other = false
+abbrev pub has_signature : List ℕ → List ℕ → MemberReference → Bool
+has_signature name descriptor member =
+    bytes_eq member.name name && bytes_eq member.descriptor descriptor
 
--- an index names the class of this name
-abbrev pub names_class : List Const → List ℕ → ℕ → Bool
-names_class pool text index = is_class pool text (const_at pool index)
-
-abbrev pub is_pair : List Const → List ℕ → List ℕ → Const → Bool
-is_pair pool name descriptor (name_and_type n d) = is_named pool name n && is_named pool descriptor d
-is_pair pool name descriptor other = false
-
--- an index names this name with this descriptor
-abbrev pub names_pair : List Const → List ℕ → List ℕ → ℕ → Bool
-names_pair pool name descriptor index = is_pair pool name descriptor (const_at pool index)
+abbrev pub is_member : List ℕ → List ℕ → List ℕ → Operand → Bool
+is_member class name descriptor (member_named member) =
+    bytes_eq member.class class && has_signature name descriptor member
+is_member class name descriptor other = false
 
 -- `java/lang/System.out`
-abbrev pub is_out : List Const → Const → Bool
-is_out pool (fieldref owner pair) =
-    names_class pool (codes "java/lang/System") owner
-    && names_pair pool (codes "out") (codes "Ljava/io/PrintStream;") pair
-is_out pool other = false
+abbrev pub is_out : Operand → Bool
+is_out operand =
+    is_member (codes "java/lang/System") (codes "out") (codes "Ljava/io/PrintStream;") operand
 
 -- `java/io/PrintStream.println (I)V`
-abbrev pub is_println : List Const → Const → Bool
-is_println pool (methodref owner pair) =
-    names_class pool (codes "java/io/PrintStream") owner
-    && names_pair pool (codes "println") (codes "(I)V") pair
-is_println pool other = false
+abbrev pub is_println : Operand → Bool
+is_println operand = is_member (codes "java/io/PrintStream") (codes "println") (codes "(I)V") operand
 
 -- ---- instructions (JVMS 6.5)
 
@@ -53,61 +41,58 @@ operation_of methods.bit_or = Some disjunction
 operation_of methods.bit_xor = Some exclusive_disjunction
 operation_of other = None
 
-abbrev pub integer_in : Const → Option Instruction
-integer_in (integer value) = Some (constant value)
-integer_in other = None
+abbrev pub integer_of : Operand → Option Instruction
+integer_of (int_constant value) = Some (constant value)
+integer_of other = None
 
 abbrev pub where_true : Bool → Instruction → Option Instruction
 where_true test instruction = if test then Some instruction else None
 
 -- An instruction as this version runs it, where it does.
-abbrev pub instruction_of : List Const → methods.Instruction ℕ → Option Instruction
-instruction_of pool (methods.push_int value) = Some (constant value)
-instruction_of pool (methods.ldc index) = integer_in (const_at pool index)
-instruction_of pool (methods.int_arithmetic operation) = option_map arithmetic (operation_of operation)
-instruction_of pool methods.int_negate = Some negate
-instruction_of pool (methods.stack methods.pop_one) = Some pop
-instruction_of pool (methods.getstatic index) = where_true (is_out pool (const_at pool index)) get_out
-instruction_of pool (methods.invokevirtual index) =
-    where_true (is_println pool (const_at pool index)) print_line
-instruction_of pool methods.return_void = Some return
-instruction_of pool other = None
-
-abbrev pub placed_as : code.Placed ℕ → Instruction → Placed
-placed_as placed instruction = record { pc = placed.pc; next = placed.next; instruction = instruction }
-
-abbrev pub placed_of : List Const → code.Placed ℕ → Option Placed
-placed_of pool placed = option_map (placed_as placed) (instruction_of pool placed.instruction)
+abbrev pub instruction_of : methods.Instruction Operand → Option Instruction
+instruction_of (methods.push_int value) = Some (constant value)
+instruction_of (methods.ldc operand) = integer_of operand
+instruction_of (methods.int_arithmetic operation) = option_map arithmetic (operation_of operation)
+instruction_of methods.int_negate = Some negate
+instruction_of (methods.stack methods.pop_one) = Some pop
+instruction_of (methods.getstatic operand) = where_true (is_out operand) get_out
+instruction_of (methods.invokevirtual operand) = where_true (is_println operand) print_line
+instruction_of methods.return_void = Some return
+instruction_of other = None
 
 -- where it runs all of them
-unfoldable pub instructions_of : List Const → List (code.Placed ℕ) → Option (List Placed)
-instructions_of pool [] = Some []
-instructions_of pool (first ∷ others) = do
-  here ← placed_of pool first
-  rest ← instructions_of pool others
+unfoldable pub instructions_of : List (code.Placed Operand) → Option (List Instruction)
+instructions_of [] = Some []
+instructions_of (first ∷ others) = do
+  here ← instruction_of first.instruction
+  rest ← instructions_of others
   Some (here ∷ rest)
 
 -- ---- the code of a method
 
--- each instruction begins where the one before it ends, and the first at this place
-abbrev pub follow_each_other : ℕ → List Placed → Bool
-follow_each_other place [] = true
-follow_each_other place (first ∷ others) =
-    (first.pc == place) && nat_lt first.pc first.next && follow_each_other first.next others
+-- those up to the first `return`, which ends the method: none behind it is reached
+abbrev pub up_to_return : List Instruction → Option (List Instruction)
+up_to_return [] = None
+up_to_return (first ∷ others) =
+    if is_return first then Some (first ∷ [])
+    else option_map (λ rest. first ∷ rest) (up_to_return others)
 
-abbrev pub is_straight_line : Body → Bool
-is_straight_line body =
-    follow_each_other 0 body.instructions && is_straight body.max_stack [] body.instructions
+-- An instruction's place is its number here: nothing that a run shows tells how many bytes an instruction has.
+abbrev pub numbered_from : ℕ → List Instruction → List Placed
+numbered_from number [] = []
+numbered_from number (first ∷ others) =
+    record { pc = number; next = number + 1; instruction = first } ∷ numbered_from (number + 1) others
 
-abbrev pub with_instructions : code.Body ℕ → List Placed → Body
-with_instructions body instructions =
-    record { max_stack = body.max_stack; max_locals = body.max_locals; instructions = instructions }
+abbrev pub with_instructions : code.Body Operand → List Instruction → Body
+with_instructions body instructions = record {
+  max_stack = body.max_stack;
+  max_locals = body.max_locals;
+  instructions = numbered_from 0 instructions;
+}
 
-abbrev pub where_straight : Body → Option Body
-where_straight body = if is_straight_line body then Some body else None
-
--- the code, where it is a straight line without handlers and stack map frames
-unfoldable pub straight_body : List Const → code.Body ℕ → Option Body
-straight_body pool body = do
-  instructions ← instructions_of pool body.instructions
-  where_straight (with_instructions body instructions)
+-- the code, where this version runs it
+abbrev pub straight_body : code.Body Operand → Option Body
+straight_body body = do
+  instructions ← instructions_of body.instructions
+  reached ← up_to_return instructions
+  Some (with_instructions body reached)

@@ -1,6 +1,6 @@
 -- What handlers catch, and what they take.
-use Rattle.std.proofs.Common.{◌≡◌, ℕ, zero, suc, Bool, true, false, not, ◌&&◌, ◌||◌, List, [], ◌∷◌, Option, Some, None, option_map, unwrap_or, length, map, bytes_eq, ap, sym, subst, ◌∙◌, refl}
-use Rattle.std.specs.List.{list_any, flat_map}
+use Rattle.std.proofs.Common.{◌≡◌, ℕ, zero, suc, Bool, true, false, not, ◌&&◌, List, [], ◌∷◌, Option, Some, None, option_map, unwrap_or, length, map, bytes_eq, ap, sym, ◌∙◌, refl}
+use Rattle.std.specs.List.{list_any}
 use Rattle.std.specs.Option.{option_map_or}
 use Rattle.std.proofs.lemmas.Slice.Eq.{bytes_eq-Decides}
 use Rattle.jv_model.specs.Partial.{passes}
@@ -9,7 +9,7 @@ use Rattle.jv_model.specs.Operand.{Operand}
 use Rattle.jv_model.specs.Code.{Handler, Body}
 use Rattle.world_model.specs.World.{World, Class, class_in}
 use Rattle.world_model.specs.BootNames.{java_throwable}
-use Rattle.world_model.specs.Supertypes.{each_once, field_order_within, superclass_of, interfaces_of, is_sub}
+use Rattle.world_model.specs.Supertypes.{each_once, field_order_within, is_sub}
 use Rattle.code_model.specs.Names.{named, named_handler, operand_at}
 use Rattle.jv_types.specs.ClassData.{pool_of}
 use Rattle.jv_types.specs.Code.{body_of, handler_of}

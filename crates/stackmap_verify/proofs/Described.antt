@@ -1,20 +1,19 @@
 -- A method that was read, as an environment of the definitions.
-use Rattle.std.proofs.Common.{◌≡◌, ℕ, true, List, Option, Some, None, map, get_or, option_map, option_and_then, bytes_eq, ap, sym, subst, ◌∙◌, refl}
+use Rattle.std.proofs.Common.{◌≡◌, ℕ, true, List, Option, Some, None, map, get_or, option_map, option_and_then, ap, sym, ◌∙◌, refl}
 use Rattle.std.specs.List.{All}
 use Rattle.std.specs.Option.{IfSome}
 use Rattle.jv_model.specs.ClassData.{Const}
 use Rattle.jv_model.specs.ConstantPool.{units_at}
-use Rattle.jv_model.specs.Descriptors as descriptors
 use Rattle.jv_model.specs.Partial.{passes}
-use Rattle.jv_model.specs.Code.{Body, Placed, MapFrame}
+use Rattle.jv_model.specs.Code.{Body, Placed}
 use Rattle.jv_model.specs.Operand.{Operand}
-use Rattle.world_model.specs.World.{World, Class, Method, class_in}
+use Rattle.world_model.specs.World.{World, Class, class_in}
 use Rattle.code_model.specs.TypeReading.{method_type_of}
 use Rattle.code_model.specs.Names.{named, named_placed, named_frame}
 use Rattle.link_model.specs.UseFaults.{is_class_where, are_types_there}
 use Rattle.link_model.specs.WorldOf.{class_of}
 use Rattle.typing_model.specs.VerificationType.{type_of as model_type_of}
-use Rattle.typing_model.specs.Environment.{Environment, environment_of}
+use Rattle.typing_model.specs.Environment.{Environment}
 use Rattle.typing_model.specs.FailingPlace.{failing_place, first_place, visits}
 use Rattle.linked_laws.specs.Code.{InstructionIsLinked, FrameIsLinked}
 use Rattle.jv_types.specs.ClassData.{pool_of}
@@ -26,7 +25,7 @@ use Rattle.jv_types.specs.declared.code.CodeBody.{CodeBody}
 use Rattle.jv_types.specs.declared.loaded.Loaded.{Loaded}
 use Rattle.class_world.specs.World.{number_of, name_at, IsInfo}
 use Rattle.class_world.specs.declared.class_info.ClassInfo.{ClassInfo}
-use Rattle.type_rules.specs.Types.{type_of, IsKnown}
+use Rattle.type_rules.specs.Types.{IsKnown}
 use Rattle.instruction_types.specs.declared.environment.Environment as numbered
 use Rattle.instruction_types.specs.Environment.{IsEnvironment}
 use Rattle.instruction_types.proofs.Found.{found-name, found-known}

@@ -1,7 +1,6 @@
 -- The rules on the frame of an instruction.
-use Rattle.std.proofs.Common.{◌≡◌, ℕ, Bool, true, false, not, Option, Some, None, option_map, ap, sym, ◌∙◌, refl}
+use Rattle.std.proofs.Common.{◌≡◌, ℕ, Bool, true, false, not, Option, Some, None, option_map, ap, sym, ◌∙◌}
 use Rattle.world_model.specs.World.{World}
-use Rattle.typing_model.specs.VerificationType.{TypeFrame}
 use Rattle.typing_model.specs.Assignable.{frame_assignable}
 use Rattle.typing_model.specs.Environment.{Environment}
 use Rattle.typing_model.specs.DescriptorFrame.{map_frame_at}

@@ -1,11 +1,11 @@
 -- The rules that are asked once an instruction has its frame.
-use Rattle.std.proofs.Common.{◌≡◌, ℕ, Bool, true, false, not, ◌&&◌, if◌then◌else◌, Option, Some, None, Err, ap, sym, subst, ◌∙◌, refl}
+use Rattle.std.proofs.Common.{◌≡◌, Bool, true, false, not, ◌&&◌, if◌then◌else◌, Option, Some, None, Err, ap, sym, subst, ◌∙◌, refl}
 use Rattle.std.specs.List.{list_any, list_all}
 use Rattle.std.specs.Option.{IfSome}
 use Rattle.jv_model.specs.Operand.{Operand}
 use Rattle.jv_model.specs.Code.{Placed}
 use Rattle.jv_model.specs.Flow.{goes_on, targets_of}
-use Rattle.jv_model.specs.Refusal.{Rule, at_handler, at_operand, at_target, at_end}
+use Rattle.jv_model.specs.Refusal.{at_handler, at_operand, at_target, at_end}
 use Rattle.world_model.specs.World.{World}
 use Rattle.typing_model.specs.VerificationType.{TypeFrame}
 use Rattle.typing_model.specs.Environment.{Environment}

@@ -9,3 +9,4 @@ pub mod Leaving
 pub mod Members
 pub mod Passing
 pub mod Switches
+pub mod Covering

@@ -1,11 +1,11 @@
 -- The methods of a class that was read, one by one.
-use Rattle.std.proofs.Common.{◌≡◌, ℕ, zero, suc, ◌<◌, List, [], ◌∷◌, Option, Some, None, length, map, option_map, option_and_then, slice_get, ap, sym, subst, ◌∙◌, refl}
+use Rattle.std.proofs.Common.{◌≡◌, ℕ, zero, suc, List, [], ◌∷◌, Option, Some, None, length, map, option_map, option_and_then, slice_get, ap, sym, subst, ◌∙◌, refl}
 use Rattle.std.proofs.lemmas.List.{length-map}
 use Rattle.std.proofs.lemmas.Option.{slice_get-map}
 use Rattle.jv_model.specs.ClassData as model
 use Rattle.jv_model.specs.Code.{Body}
-use Rattle.jv_model.specs.Refusal.{Cause, not_verified}
-use Rattle.jv_model.specs.Partial.{◌>>=◌, first_of}
+use Rattle.jv_model.specs.Refusal.{Cause}
+use Rattle.jv_model.specs.Partial.{first_of}
 use Rattle.world_model.specs.World.{World, Class, Method}
 use Rattle.link_model.specs.WorldOf.{class_of, method_of, methods_of}
 use Rattle.typing_model.specs.FailingPlace.{failing_place, method_failure}

@@ -1,7 +1,7 @@
 -- Numbers of frames, place by place.
-use Rattle.std.proofs.Common.{◌≡◌, ℕ, zero, suc, ◌+◌, ◌<◌, ◌==◌, Bool, true, false, if◌then◌else◌, List, [], ◌∷◌, ◌++◌, Option, Some, None, length, map, find, take, slice_get, slice_set, get_or, is_none, ap, sym, subst, ◌∙◌, refl, arith}
+use Rattle.std.proofs.Common.{◌≡◌, ℕ, zero, suc, ◌+◌, ◌==◌, Bool, true, false, if◌then◌else◌, List, [], ◌∷◌, ◌++◌, Option, Some, None, length, find, take, slice_get, ap, sym, subst, ◌∙◌, refl, arith}
 use Rattle.std.proofs.lemmas.List.{take_more, length-take-le}
-use Rattle.std.proofs.lemmas.Option.{slice_get_within, get_or_from_slice_get, slice_get-map}
+use Rattle.std.proofs.lemmas.Option.{slice_get_within, get_or_from_slice_get}
 use Rattle.jv_model.specs.Code.{MapFrame}
 use Rattle.jv_model.specs.Partial.{or_else}
 use Rattle.stackmap_verify.specs.FrameNumbers.{number_in, number_if, frame_at, FindsFrame, AreNumbers}
@@ -26,10 +26,12 @@ still_there (z ∷ xs) y x (suc n) at = still_there xs y x n at
 
 frame_more : (frames : List (MapFrame ℕ)) (frame : MapFrame ℕ) (at : ℕ) (number : Option ℕ) → FindsFrame frames at number
     → FindsFrame (frames ++ frame ∷ []) at (or_else number (number_if (frame.pc == at) (length frames)))
-frame_more frames frame at (Some n) finds =
-    (finds.0, still_there frames frame finds.0 n finds.1,
-      find_more (λ (f : MapFrame ℕ). f.pc == at) frames frame
-      ∙ ap (λ (o : Option (MapFrame ℕ)). or_else o (if frame.pc == at then Some frame else None)) finds.2)
+frame_more frames frame at (Some n) finds = (
+  finds.0,
+  still_there frames frame finds.0 n finds.1,
+  find_more (λ (f : MapFrame ℕ). f.pc == at) frames frame
+      ∙ ap (λ (o : Option (MapFrame ℕ)). or_else o (if frame.pc == at then Some frame else None)) finds.2,
+)
 frame_more frames frame at None finds = by (frame.pc == at) refl
   where
     found : frame_at (frames ++ frame ∷ []) at ≡ (if frame.pc == at then Some frame else None)

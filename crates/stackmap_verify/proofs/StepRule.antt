@@ -1,5 +1,5 @@
 -- The rule on the instruction itself.
-use Rattle.std.proofs.Common.{◌≡◌, ℕ, ◌==◌, Bool, true, false, not, ◌&&◌, List, Option, Some, None, Result, Ok, Err, map, ap, sym, ◌∙◌, refl}
+use Rattle.std.proofs.Common.{◌≡◌, ℕ, ◌==◌, Bool, true, false, not, ◌&&◌, List, Some, Ok, Err, map, ap, sym, ◌∙◌, refl}
 use Rattle.jv_model.specs.Refusal.{at_operand}
 use Rattle.jv_model.specs.Operand.{Operand}
 use Rattle.jv_model.specs.Code.{Placed, Body}
@@ -10,7 +10,7 @@ use Rattle.typing_model.specs.VerificationType.{TypeFrame}
 use Rattle.typing_model.specs.Environment.{Environment}
 use Rattle.typing_model.specs.DescriptorFrame.{has_room}
 use Rattle.typing_model.specs.InstructionTypes.{type_step}
-use Rattle.typing_model.specs.Rules.{Visit, frame_of, frame_behind, fails}
+use Rattle.typing_model.specs.Rules.{Visit, frame_of, fails}
 use Rattle.jv_types.specs.ClassData.{pool_of}
 use Rattle.jv_types.specs.Code.{body_of}
 use Rattle.type_rules.specs.Frames.{Types}

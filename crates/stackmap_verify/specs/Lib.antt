@@ -7,4 +7,5 @@ pub mod Methods
 pub mod Environments
 pub mod Codes
 -- its instructions
+pub mod Cover
 pub mod Visits

@@ -1,11 +1,10 @@
 -- Which environment of the definitions a `Method` is.
 use Rattle.std.specs.Prelude.{◌≡◌, ℕ, map}
 use Rattle.std.specs.List.{All}
-use Rattle.jv_model.specs.Code.{Placed, MapFrame}
-use Rattle.code_model.specs.Names.{operand_at, named_placed}
+use Rattle.jv_model.specs.Code.{Placed}
+use Rattle.code_model.specs.Names.{named_placed}
 use Rattle.jv_types.specs.ClassData.{pool_of}
 use Rattle.jv_types.specs.Code.{frame_of}
-use Rattle.jv_model.specs.Operand.{Operand}
 use Rattle.typing_model.specs.Environment as model
 use Rattle.typing_model.specs.DescriptorFrame.{has_room}
 use Rattle.linked_laws.specs.Code.{InstructionIsLinked}

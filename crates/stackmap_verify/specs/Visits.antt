@@ -1,5 +1,5 @@
 -- What a visit of an instruction says of the rules.
-use Rattle.std.specs.Prelude.{◌≡◌, ℕ, Bool, true, false, Option, Some, None, option_map, Result, Ok, Err}
+use Rattle.std.specs.Prelude.{◌≡◌, ℕ, true, false, Option, Some, None, option_map, Result, Ok, Err}
 use Rattle.jv_model.specs.Refusal as model
 use Rattle.jv_model.specs.Refusal.{at_map, after_flow, at_operand}
 use Rattle.world_model.specs.World.{World}

@@ -102,7 +102,9 @@ pub fn goes_to_targets<L: Ledger>(
         | Instruction::IfNull(_, target)
         | Instruction::Goto(target) => goes_to(alloc, method, frame, *target, steps),
         Instruction::Tableswitch {
-            otherwise, targets, ..
+            otherwise,
+            targets,
+            ..
         } => {
             let goes = goes_to(alloc, method, frame, *otherwise, steps)?;
             Ok(goes && goes_to_all(alloc, method, frame, targets.as_slice(), steps)?)

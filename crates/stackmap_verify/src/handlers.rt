@@ -2,6 +2,7 @@
 
 ghost use Rattle.std.specs.Prelude.{◌≡◌, ◌∷◌, [], IfOk};
 ghost use Rattle.std.specs.List.{list_any};
+ghost use Rattle.std.specs.List.Sorted.{IsPermutation};
 ghost use Rattle.code_model.specs.Names.{named_handler};
 ghost use Rattle.typing_model.specs.Environment.{Environment as ModelEnvironment};
 ghost use Rattle.typing_model.specs.VerificationType.{class};
@@ -14,6 +15,7 @@ ghost use Rattle.type_rules.specs.Types.{IsKnown};
 ghost use Rattle.type_rules.specs.Frames.{types_of, frame_of, IsKnownFrame};
 ghost use Rattle.stackmap_verify.specs.Methods.{IsMethod, IsSound};
 
+use crate::cover::Cover;
 use crate::maps::map_frame_at;
 use crate::method::Method;
 use jv_types::{ClassNo, Handler, NoMemory, Steps};
@@ -66,17 +68,11 @@ fn goes_to_handler<L: Ledger>(
         return Ok(false);
     };
     let operands = [VerificationType::Class(caught)];
-    Ok(types_assignable(
-        method.world,
-        frame.locals(),
-        &operands,
-        &target,
-        steps,
-    ))
+    Ok(types_assignable(method.world, frame.locals(), &operands, &target, steps))
 }
 
-/// Whether a handler takes what is thrown over a frame: the class that it catches is a throwable, no
-/// local is uninitialized `this`, and the locals with that class go to its map frame.
+/// Whether a handler takes what is thrown over a frame: the class that it catches is a throwable,
+/// no local is uninitialized `this`, and the locals with that class go to its map frame.
 fn handler_fits<L: Ledger>(
     alloc: Global,
     method: &Method,
@@ -151,16 +147,19 @@ fn one_of_misfits<L: Ledger>(
 pub fn one_misfits<L: Ledger>(
     alloc: Global,
     method: &Method,
+    cover: &mut Cover,
     pc: u32,
     frame: &TypeFrame,
     steps: &mut Steps<L>,
 ) -> Result<bool, NoMemory>
     requires method { IsSound method.now }
+    requires cover { IsPermutation method.now.code.now.body.now.handlers.items cover.old.rows }
     requires frame { IsKnownFrame method.now.world.now frame.now }
-    ensures { IfOk result (λ wrong. (e : ModelEnvironment) → IsMethod method.now e
+    ensures misfits { IfOk result (λ wrong. (e : ModelEnvironment) → IsMethod method.now e
         → wrong ≡ list_any (model_misfits e pc (frame_of method.now.world.now frame.now))
         e.body.handlers) }
+    ensures rows { cover.new.rows ≡ cover.old.rows }
 {
-    let handlers = method.code.body.handlers.as_slice();
-    one_of_misfits(alloc, method, pc, frame, handlers, steps)
+    cover.come_to(pc)?;
+    one_of_misfits(alloc, method, pc, frame, cover.active(), steps)
 }

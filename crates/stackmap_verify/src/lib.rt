@@ -17,6 +17,7 @@
 #![tactic(auto)]
 
 mod code;
+mod cover;
 mod environment;
 mod error;
 mod failure;

@@ -15,11 +15,7 @@ use std::sync::ledger::Ledger;
 use type_rules::{TypeFrame, frame_assignable};
 
 /// The map frame at a place, where there is one.
-pub fn map_frame_at(
-    alloc: Global,
-    method: &Method,
-    pc: u32,
-) -> Result<Option<TypeFrame>, NoMemory>
+pub fn map_frame_at(alloc: Global, method: &Method, pc: u32) -> Result<Option<TypeFrame>, NoMemory>
     requires { IsSound method.now }
     ensures same { IfOk result (λ found. (e : ModelEnvironment) → IsMethod method.now e
         → option_map (frame_of method.now.world.now) found ≡ model_map_frame_at e pc) }

@@ -8,6 +8,7 @@ ghost use Rattle.type_rules.specs.Frames.{frame_of, IsKnownFrame};
 ghost use Rattle.stackmap_verify.specs.Methods.{IsMethod, IsSound};
 ghost use Rattle.stackmap_verify.specs.Visits.{place_of};
 
+use crate::cover::Cover;
 use crate::failure::{Failure, Place};
 use crate::method::Method;
 use crate::visit::visit;
@@ -40,11 +41,12 @@ pub fn first_place<L: Ledger>(
         → option_map place_of place ≡ model_first_place e (visits e)) }
 {
     let instructions = &method.code.body.instructions;
+    let mut cover = Cover::of(alloc, method.code.body.handlers.as_slice())?;
     let mut flow = Some(start);
     for number in 0..instructions.len() {
         let insn = instructions.get(number);
         let is_last = number + 1 == instructions.len();
-        match visit(alloc, method, insn, is_last, flow, steps) {
+        match visit(alloc, method, &mut cover, insn, is_last, flow, steps) {
             Ok(next) => flow = next,
             Err(failure) => return Ok(Some(place_at(insn.pc, failure)?)),
         }

@@ -1,6 +1,7 @@
 //! The rules at an instruction, in their order (JVMS 4.10.1.6).
 
 ghost use Rattle.std.specs.Prelude.{◌≡◌, ◌==◌, ◌&&◌, ℕ, not, if◌then◌else◌, IfOk, IfSome};
+ghost use Rattle.std.specs.List.Sorted.{IsPermutation};
 ghost use Rattle.jv_model.specs.Operand.{Operand};
 ghost use Rattle.jv_model.specs.Flow.{goes_on as model_goes_on};
 ghost use Rattle.code_model.specs.MappedInstruction.{mapped_instruction};
@@ -16,6 +17,7 @@ ghost use Rattle.type_rules.specs.Frames.{frame_of, IsKnownFrame};
 ghost use Rattle.stackmap_verify.specs.Methods.{IsMethod, IsSound};
 ghost use Rattle.stackmap_verify.specs.Visits.{flow_of, HasFrame, Enters, StepsTo, Leaves};
 
+use crate::cover::Cover;
 use crate::failure::Failure;
 use crate::flow::{goes_on, goes_to_targets};
 use crate::handlers::one_misfits;
@@ -107,7 +109,8 @@ fn step<L: Ledger>(
 /// Whether flow goes past the last instruction.
 fn runs_out(insn: &Insn, is_last: bool) -> bool
     ensures { (names : ℕ → Operand) → result
-        ≡ (model_goes_on (mapped_instruction names (instruction_of insn.now.instruction)) && is_last) }
+        ≡ (model_goes_on (mapped_instruction names (instruction_of insn.now.instruction))
+        && is_last) }
 {
     is_last && goes_on(&insn.instruction)
 }
@@ -129,12 +132,14 @@ fn flow_after(insn: &Insn, after: TypeFrame) -> Option<TypeFrame>
 pub fn leave<L: Ledger>(
     alloc: Global,
     method: &Method,
+    cover: &mut Cover,
     insn: &Insn,
     is_last: bool,
     frame: TypeFrame,
     steps: &mut Steps<L>,
 ) -> Result<Option<TypeFrame>, Failure>
     requires method { IsSound method.now }
+    requires cover { IsPermutation method.now.code.now.body.now.handlers.items cover.old.rows }
     requires linked { InstructionIsLinked method.now.world.now
         (named_placed (pool_of method.now.code.now.pool.now) (placed_of insn.now)).instruction }
     requires frame { IsKnownFrame method.now.world.now frame }
@@ -142,9 +147,10 @@ pub fn leave<L: Ledger>(
         → v.placed ≡ named_placed (pool_of method.now.code.now.pool.now) (placed_of insn.now)
         → v.is_last ≡ is_last → HasFrame e v (frame_of method.now.world.now frame)
         → Leaves method.now.world.now e v result }
+    ensures rows { cover.new.rows ≡ cover.old.rows }
     ensures known { IfOk result (λ flow. IfSome flow (IsKnownFrame method.now.world.now)) }
 {
-    if one_misfits(alloc, method, insn.pc, &frame, steps)? {
+    if one_misfits(alloc, method, cover, insn.pc, &frame, steps)? {
         return Err(Failure::Breaks(Rule::Handler));
     }
     let after = step(alloc, method, insn, frame, steps)?;
@@ -161,12 +167,14 @@ pub fn leave<L: Ledger>(
 pub fn visit<L: Ledger>(
     alloc: Global,
     method: &Method,
+    cover: &mut Cover,
     insn: &Insn,
     is_last: bool,
     flow: Option<TypeFrame>,
     steps: &mut Steps<L>,
 ) -> Result<Option<TypeFrame>, Failure>
     requires method { IsSound method.now }
+    requires cover { IsPermutation method.now.code.now.body.now.handlers.items cover.old.rows }
     requires linked { InstructionIsLinked method.now.world.now
         (named_placed (pool_of method.now.code.now.pool.now) (placed_of insn.now)).instruction }
     requires flow { IfSome flow (IsKnownFrame method.now.world.now) }
@@ -174,8 +182,9 @@ pub fn visit<L: Ledger>(
         → v.placed ≡ named_placed (pool_of method.now.code.now.pool.now) (placed_of insn.now)
         → v.flow ≡ flow_of method.now.world.now flow → v.is_last ≡ is_last
         → Leaves method.now.world.now e v result }
+    ensures rows { cover.new.rows ≡ cover.old.rows }
     ensures known { IfOk result (λ flow. IfSome flow (IsKnownFrame method.now.world.now)) }
 {
     let frame = entry_frame(alloc, method, insn.pc, flow, steps)?;
-    leave(alloc, method, insn, is_last, frame, steps)
+    leave(alloc, method, cover, insn, is_last, frame, steps)
 }

@@ -15,11 +15,7 @@ use std::marker::Brand;
 use std::sync::ledger::{Blank, Ledger};
 
 /// Verifies the methods of all classes in order, over a ledger of the steps.
-fn verify_classes<L: Ledger>(
-    alloc: Global,
-    blank: Blank,
-    world: &World,
-) -> Result<(), VerifyError>
+fn verify_classes<L: Ledger>(alloc: Global, blank: Blank, world: &World) -> Result<(), VerifyError>
     requires name { blank.name ≡ L.name }
     requires parts { blank.parts ≡ L.parts }
     requires shared { 0 < blank.parts }

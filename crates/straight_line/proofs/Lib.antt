@@ -1,3 +1,5 @@
 mod StraightLineLemmas
 mod RunLemmas
 mod MainLemmas
+mod Operands
+mod Typed

@@ -1,18 +1,19 @@
 -- The run of a straight line: thread 0 alone, in turns of a slice each.
-use Rattle.std.proofs.Common.{◌≡◌, ℕ, zero, suc, ◌+◌, ◌-◌, ◌<◌, ◌≤◌, Bool, true, false, cond, leb, ◌&&◌, List, [], ◌∷◌, ◌++◌, length, map, Option, Some, None, is_some, refl, sym, ap, subst, ◌∙◌, append_assoc, zero-add, arith, inl, inr}
+use Rattle.std.proofs.Common.{◌≡◌, ℕ, zero, suc, ◌+◌, ◌-◌, ◌<◌, ◌≤◌, Bool, true, false, cond, leb, ◌&&◌, List, [], ◌∷◌, ◌++◌, length, map, Option, Some, None, is_some, refl, sym, ap, subst, ◌∙◌, append_assoc, zero-add, add-zero, arith, inl, inr}
 use Rattle.std.specs.Prelude.{IfSome, IsTrue, IsSome}
 use Rattle.std.proofs.lemmas.List.{append-nil, length-map}
 use Rattle.std.proofs.lemmas.Bool.{le-leb, cases_lt}
 use Rattle.jv_model.specs.Partial.{◌>>=◌}
-use Rattle.straight_line_model.specs.Instruction.{Placed}
+use Rattle.straight_line_model.specs.Instruction.{Instruction, Placed}
 use Rattle.straight_line_model.specs.StraightLine.{is_straight, IsStraightLine, FollowEachOther}
 use Rattle.straight_line_model.specs.Machine.{Program, Machine, start, step, steps_of}
 use Rattle.jv_model.specs.Journal.{Entry, run}
 use Rattle.run_model.specs.Journal.{made, is_legal, replayed}
 use Rattle.jv_model.specs.Limits.{most_slice_steps}
 use Rattle.run_model.specs.RoundRobin.{next_thread, IsSlice, TakesTurns}
-use Rattle.straight_line.specs.declared.body.Placed.{Placed as Here}
-use Rattle.straight_line.specs.Body.{placed_of}
+use Rattle.run_model.specs.MainCode.{numbered_from}
+use Rattle.straight_line.specs.declared.body.Instruction.{Instruction as Here}
+use Rattle.straight_line.specs.Body.{instruction_of}
 use Rattle.straight_line.specs.Runs.{State, after_all, IsTurn, RanToEnd}
 use Rattle.straight_line.proofs.StraightLineLemmas.{machine_at, IsReady, RanSlice, slice_runs}
 
@@ -210,24 +211,61 @@ ran_to_end program entries state steps so_far = record {
   printed = refl;
 }
 
+-- ---- instructions with their numbers
+
+-- there are as many
+pub numbered-length : (number : ℕ) (instructions : List Instruction)
+    → length (numbered_from number instructions) ≡ length instructions
+numbered-length number [] = refl
+numbered-length number (first ∷ others) = ap suc (numbered-length (number + 1) others)
+
+-- they are the same ones
+numbered-same : (number : ℕ) (instructions : List Instruction)
+    → map (λ (p : Placed). p.instruction) (numbered_from number instructions) ≡ instructions
+numbered-same number [] = refl
+numbered-same number (first ∷ others) = ap (λ rest. first ∷ rest) (numbered-same (number + 1) others)
+
+-- the second part has the numbers behind those of the first
+numbered-append : (number : ℕ) (first second : List Instruction)
+    → numbered_from number (first ++ second)
+    ≡ numbered_from number first ++ numbered_from (number + length first) second
+numbered-append number [] second = rw add-zero refl
+numbered-append number (first ∷ others) second =
+    let behind : number + length (first ∷ others) ≡ (number + 1) + length others = omega arith in
+    rw behind (ap (λ rest. record { pc = number; next = number + 1; instruction = first } ∷ rest)
+    (numbered-append (number + 1) others second))
+
+-- a turn of them is a turn
+numbered-turn : (number place : ℕ) (slice rest : List Instruction) → IsTurn slice rest
+    → IsTurn (numbered_from number slice) (numbered_from place rest)
+numbered-turn number place slice rest turn = record {
+  some = omega (arith, numbered-length number slice, turn.some);
+  within = omega (arith, numbered-length number slice, turn.within);
+  full = elim turn.full [
+    | inl last ↦ inl (ap (numbered_from place) last)
+    | inr full ↦ inr (numbered-length number slice ∙ full)
+  ];
+}
+
 -- The entries so far, and the instructions that are left: those before them have run.
-pub record IsUnderWay (program : Program) (entries : List Entry) (rest : List Placed)
+pub record IsUnderWay (program : Program) (entries : List Entry) (rest : List Instruction)
     (state : State) : Type 0 where
+  pub number : ℕ
   pub before : List Placed
-  pub split : program.main.instructions ≡ before ++ rest
-  pub ready : IsReady program.main.max_stack state.stack rest
+  pub split : program.main.instructions ≡ before ++ numbered_from number rest
+  pub ready : IsReady program.main.max_stack state.stack (numbered_from number rest)
   pub steps : ℕ
-  pub so_far : HasRun program entries (machine_at program rest state steps)
+  pub so_far : HasRun program entries (machine_at program (numbered_from number rest) state steps)
 
 -- a turn by how the definitions see its instructions
 pub turn_of_views : (slice rest : List Here) → IsTurn slice rest
-    → IsTurn (map placed_of slice) (map placed_of rest)
+    → IsTurn (map instruction_of slice) (map instruction_of rest)
 turn_of_views slice rest turn = record {
-  some = omega (arith, length-map slice placed_of, turn.some);
-  within = omega (arith, length-map slice placed_of, turn.within);
+  some = omega (arith, length-map slice instruction_of, turn.some);
+  within = omega (arith, length-map slice instruction_of, turn.within);
   full = elim turn.full [
-    | inl last ↦ inl (ap (λ (left : List Here). map placed_of left) last)
-    | inr full ↦ inr (length-map slice placed_of ∙ full)
+    | inl last ↦ inl (ap (λ (left : List Here). map instruction_of left) last)
+    | inr full ↦ inr (length-map slice instruction_of ∙ full)
   ];
 }
 
@@ -236,51 +274,71 @@ ready_at_start : (max_stack : ℕ) (instructions : List Placed)
 ready_at_start max_stack [] straight = tt
 ready_at_start max_stack (first ∷ others) straight = straight
 
-pub at_the_start : (program : Program) → IsStraightLine program.main
-    → IsUnderWay program [] program.main.instructions (record { stack = []; output = [] })
-at_the_start program straight =
-    record {
-      before = [];
-      split = refl;
-      ready =
-          ready_at_start program.main.max_stack program.main.instructions straight.operands;
-      steps =
-          0;
-      so_far = starts program straight;
-    }
+pub at_the_start : (program : Program) (instructions : List Instruction)
+    → IsStraightLine program.main → program.main.instructions ≡ numbered_from 0 instructions
+    → IsUnderWay program [] instructions (record { stack = []; output = [] })
+at_the_start program instructions straight is = record {
+  number = 0;
+  before = [];
+  split = is;
+  ready = subst (IsReady program.main.max_stack []) is
+      (ready_at_start program.main.max_stack program.main.instructions straight.operands);
+  steps = 0;
+  so_far = subst (λ left. HasRun program []
+      (machine_at program left (record { stack = []; output = [] }) 0)) is (starts program straight);
+}
 
 module _ (program : Program) (straight : IsStraightLine program.main) (entries : List Entry)
-    (slice rest whole : List Placed) (state : State)
+    (slice rest whole : List Instruction) (state : State)
     (under_way : IsUnderWay program entries whole state) (parts : whole ≡ slice ++ rest) where
-  ran : RanSlice program slice rest state under_way.steps
-  ran = slice_runs program under_way.before slice rest state under_way.steps straight.places
-      (under_way.split ∙ ap (λ others. under_way.before ++ others) parts)
-      (subst (IsReady program.main.max_stack state.stack) parts under_way.ready)
+  abbrev turn : List Placed
+  turn = numbered_from under_way.number slice
+
+  abbrev left : List Placed
+  left = numbered_from (under_way.number + length slice) rest
+
+  both : numbered_from under_way.number whole ≡ turn ++ left
+  both = ap (numbered_from under_way.number) parts
+      ∙ numbered-append under_way.number slice rest
+
+  ran : RanSlice program turn left state under_way.steps
+  ran = slice_runs program under_way.before turn left state under_way.steps straight.places
+      (under_way.split ∙ ap (λ others. under_way.before ++ others) both)
+      (subst (IsReady program.main.max_stack state.stack) both under_way.ready)
+
+  ran_all : after_all slice state ≡ Some ran.next
+  ran_all = ap (λ instructions. after_all instructions state)
+      (sym (numbered-same under_way.number slice)) ∙ ran.ran
 
   pub can_run : IsSome (after_all slice state)
-  can_run = rw ran.ran refl
+  can_run = rw ran_all refl
 
   pub one_turn : (next : State) → after_all slice state ≡ Some next → IsTurn slice rest
       → IsUnderWay program (entries ++ run 0 (length slice) ∷ []) rest next
-  one_turn next is turn =
-      let both = sym ran.ran ∙ is in
+  one_turn next is is_turn =
+      let made = sym ran_all ∙ is in
       let same : ran.next ≡ next = cc in
+      let count : length turn ≡ length slice = numbered-length under_way.number slice in
+      let taken = turn_taken program entries turn left state under_way.steps ran
+      (numbered-turn under_way.number (under_way.number + length slice) slice rest is_turn)
+      (subst (λ instructions.
+      HasRun program entries (machine_at program instructions state under_way.steps))
+      both under_way.so_far) in
       subst (IsUnderWay program (entries ++ run 0 (length slice) ∷ []) rest) same (record {
-        before = under_way.before ++ slice;
-        split = under_way.split ∙ ap (λ others. under_way.before ++ others) parts
-            ∙ sym (append_assoc under_way.before slice rest);
+        number = under_way.number + length slice;
+        before = under_way.before ++ turn;
+        split = under_way.split ∙ ap (λ others. under_way.before ++ others) both
+            ∙ sym (append_assoc under_way.before turn left);
         ready = ran.ready;
-        steps = under_way.steps + length slice;
-        so_far = turn_taken program entries slice rest state under_way.steps ran turn
-            (subst (λ instructions.
-            HasRun program entries (machine_at program instructions state under_way.steps))
-            parts under_way.so_far);
+        steps = under_way.steps + length turn;
+        so_far = subst (λ n. HasRun program (entries ++ run 0 n ∷ [])
+            (machine_at program left ran.next (under_way.steps + length turn))) count taken;
       })
 
-pub no_more : (program : Program) (entries : List Entry) (rest : List Placed) (state : State)
+pub no_more : (program : Program) (entries : List Entry) (rest : List Instruction) (state : State)
     → rest ≡ [] → IsUnderWay program entries rest state → RanToEnd program entries state.output
 no_more program entries rest state none under_way =
     ran_to_end program entries state under_way.steps
-    (subst (λ instructions.
-    HasRun program entries (machine_at program instructions state under_way.steps)) none
+    (subst (λ instructions. HasRun program entries
+    (machine_at program (numbered_from under_way.number instructions) state under_way.steps)) none
     under_way.so_far)

@@ -214,7 +214,7 @@ one_step program before first (second ∷ others) state steps follow split ready
 pub record RanSlice (program : Program) (slice rest : List Placed) (state : State)
     (steps : ℕ) : Type 0 where
   pub next : State
-  pub ran : after_all slice state ≡ Some next
+  pub ran : after_all (map (λ (p : Placed). p.instruction) slice) state ≡ Some next
   pub is : steps_of 0 (length slice) (machine_at program (slice ++ rest) state steps)
       ≡ Some (machine_at program rest next (steps + length slice))
   pub ready : IsReady program.main.max_stack next.stack rest
@@ -235,7 +235,8 @@ slice_runs program before (first ∷ slice) rest state steps follow split ready 
     let count : steps + length (first ∷ slice) ≡ (steps + 1) + length slice = omega arith in
     record {
       next = others.next;
-      ran = ap (λ o. o >>= after_all slice) step.ran ∙ others.ran;
+      ran = ap (λ o. o >>= after_all (map (λ (p : Placed). p.instruction) slice)) step.ran
+          ∙ others.ran;
       is = ap (λ o. o >>= λ next. steps_of 0 (length slice) next) step.is ∙ others.is
           ∙ ap (λ n. Some (machine_at program rest others.next n)) (sym count);
       ready = others.ready;

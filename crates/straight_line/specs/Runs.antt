@@ -3,7 +3,7 @@ use Rattle.std.specs.Prelude.{◌≡◌, ℕ, ◌≤◌, ◌⊎◌, length, List
 use Rattle.std.specs.Option.{option_map}
 use Rattle.jv_model.specs.Partial.{◌>>=◌}
 use Rattle.jv_model.specs.End.{all_ended}
-use Rattle.straight_line_model.specs.Instruction.{Instruction, Placed}
+use Rattle.straight_line_model.specs.Instruction.{Instruction}
 use Rattle.straight_line_model.specs.OperandStack as model
 use Rattle.straight_line_model.specs.Effect.{Effect, goes_on, returns, effect_of}
 use Rattle.straight_line_model.specs.Machine.{Program, Machine as ModelMachine, end_of, output_of}
@@ -44,9 +44,9 @@ abbrev pub after : Instruction → State → Option State
 after instruction state = option_map (affected state) (effect_of instruction state.stack)
 
 -- the state after these instructions, one after the other
-abbrev pub after_all : List Placed → State → Option State
+abbrev pub after_all : List Instruction → State → Option State
 after_all [] state = Some state
-after_all (first ∷ others) state = after first.instruction state >>= after_all others
+after_all (first ∷ others) state = after first state >>= after_all others
 
 -- The instructions of a turn: all that are left, or as many as a turn may have.
 pub record IsTurn {A : Type 0} (slice rest : List A) : Type 0 where

@@ -22,24 +22,13 @@ pub enum Instruction {
     Return,
 }
 
-/// An instruction and its place in the code array (JVMS 4.7.3).
-#[derive(Clone, Copy, Debug, PartialEq, Eq)]
-pub struct Placed {
-    /// The index in the code array, in bytes, at which the instruction begins.
-    pub pc: u32,
-    /// The index behind its last byte.
-    pub next: u32,
-    /// The instruction.
-    pub instruction: Instruction,
-}
-
-/// A method's code (JVMS 4.7.3).
+/// A method's code (JVMS 4.7.3), as far as it is reached.
 #[derive(Debug, Drop)]
 pub struct Body {
     /// The most words that the operand stack of a frame holds.
     pub max_stack: u16,
     /// How many words the local variables of a frame take.
     pub max_locals: u16,
-    /// The instructions, as they stand in the code array.
-    pub instructions: List<Placed>,
+    /// The instructions up to the first `return`, as they stand in the code array.
+    pub instructions: List<Instruction>,
 }

@@ -1,19 +1,19 @@
 //! The instructions that are run, among those of methods (JVMS 6.5).
 
 ghost use Rattle.std.specs.Prelude.{◌≡◌, option_map, Some, map};
-ghost use Rattle.run_model.specs.MainCode.{operation_of as model_operation, integer_in, instruction_of, placed_of};
+ghost use Rattle.run_model.specs.MainCode.{operation_of as model_operation, integer_of, instruction_of};
 ghost use Rattle.jv_model.specs.ConstantPool.{const_at};
+ghost use Rattle.code_model.specs.MappedInstruction.{mapped_instruction};
+ghost use Rattle.code_model.specs.Names.{operand_at};
 ghost use Rattle.jv_types.specs.ClassData.{pool_of};
 ghost use Rattle.jv_types.specs.Instruction.{arithmetic_of, instruction_of as method_instruction_of};
-ghost use Rattle.jv_types.specs.Instructions.{placed_of as method_placed_of};
 ghost use Rattle.jv_types.specs.IntOperation.{operation_of};
-ghost use Rattle.straight_line.specs.Body.{placed_of as here_placed_of};
 ghost use Rattle.straight_line.specs.Programs.{instruction_found};
 
-use crate::body::{Instruction, Placed};
+use crate::body::Instruction;
 use crate::names::{names_out, names_println};
 use jv_types::{
-    Arithmetic, Const, Insn, Instruction as MethodInstruction, IntOperation, List, StackForm,
+    Arithmetic, Const, Instruction as MethodInstruction, IntOperation, List, StackForm,
 };
 
 /// The arithmetic that needs no divisor.
@@ -32,8 +32,10 @@ fn operation_of(operation: Arithmetic) -> Option<IntOperation>
 }
 
 /// What pushes the Integer at an index.
+#[tactic(auto, unfolding(code_model::specs::Names::operand_at))]
 fn integer_at(pool: &List<Const>, index: u16) -> Option<Instruction>
-    ensures { instruction_found result ≡ integer_in (const_at (pool_of pool.now.items) index) }
+    ensures { instruction_found result
+        ≡ integer_of (operand_at (pool_of pool.now.items) index) }
 {
     match pool.as_slice().get(usize::from(index)) {
         Some(Const::Integer(value)) => Some(Instruction::Constant(*value)),
@@ -46,8 +48,9 @@ pub(crate) fn instruction_of(
     pool: &List<Const>,
     instruction: &MethodInstruction,
 ) -> Option<Instruction>
-    ensures { instruction_found result
-        ≡ instruction_of (pool_of pool.now.items) (method_instruction_of instruction.now) }
+    ensures { instruction_found result ≡ instruction_of
+        (mapped_instruction (operand_at (pool_of pool.now.items))
+        (method_instruction_of instruction.now)) }
 {
     match instruction {
         MethodInstruction::PushInt(value) => Some(Instruction::Constant(*value)),
@@ -64,20 +67,5 @@ pub(crate) fn instruction_of(
         }
         MethodInstruction::ReturnVoid => Some(Instruction::Return),
         _ => None,
-    }
-}
-
-/// The same with its place.
-pub(crate) fn placed_of(pool: &List<Const>, insn: &Insn) -> Option<Placed>
-    ensures { option_map here_placed_of result
-        ≡ placed_of (pool_of pool.now.items) (method_placed_of insn.now) }
-{
-    match instruction_of(pool, &insn.instruction) {
-        Some(instruction) => Some(Placed {
-            pc: insn.pc,
-            next: insn.next,
-            instruction,
-        }),
-        None => None,
     }
 }

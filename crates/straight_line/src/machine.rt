@@ -2,7 +2,7 @@
 
 ghost use Rattle.std.specs.Prelude.{◌≡◌, ◌<◌, ◌≤◌, [], ◌∷◌, ◌++◌, length, map, IfOk, OnOk, IsSome, Some};
 ghost use Rattle.jv_types.specs.Entry.{entries_of};
-ghost use Rattle.straight_line.specs.Body.{instruction_of, placed_of, body_of};
+ghost use Rattle.straight_line.specs.Body.{instruction_of, body_of};
 ghost use Rattle.straight_line_model.specs.StraightLine.{IsStraightLine};
 ghost use Rattle.straight_line_model.specs.OperandStack.{int};
 ghost use Rattle.straight_line_model.specs.Effect.{printed_line};
@@ -11,7 +11,7 @@ ghost use Rattle.jv_model.specs.Limits.{most_slice_steps};
 ghost use Rattle.straight_line.specs.Programs.{program};
 ghost use Rattle.straight_line.specs.Runs.{RanToEnd, IsTurn, values_of, state, after, after_all, HasIntOnTop};
 
-use crate::body::{Body, Instruction, Placed};
+use crate::body::{Body, Instruction};
 use jv_types::{
     Bytes, Entry, List, MOST_SLICE_STEPS, NoMemory, OperandStack, ThreadNo, int_negate, int_op,
 };
@@ -92,13 +92,13 @@ impl Machine {
     }
 
     /// Runs instructions one after the other, which find their operands.
-    fn run_slice(&mut self, alloc: Global, slice: &[Placed]) -> Result<(), NoMemory>
-        requires { IsSome (after_all (map placed_of slice.now) (state self.old)) }
+    fn run_slice(&mut self, alloc: Global, slice: &[Instruction]) -> Result<(), NoMemory>
+        requires { IsSome (after_all (map instruction_of slice.now) (state self.old)) }
         ensures { OnOk result
-            (after_all (map placed_of slice.now) (state self.old) ≡ Some (state self.new)) }
+            (after_all (map instruction_of slice.now) (state self.old) ≡ Some (state self.new)) }
     {
-        for placed in slice {
-            self.execute(alloc, placed.instruction)?;
+        for instruction in slice {
+            self.execute(alloc, *instruction)?;
         }
         Ok(())
     }
@@ -107,13 +107,13 @@ impl Machine {
     fn take_turn(
         &mut self,
         alloc: Global,
-        slice: &[Placed],
+        slice: &[Instruction],
         journal: &mut List<Entry>,
     ) -> Result<(), NoMemory>
-        requires runs { IsSome (after_all (map placed_of slice.now) (state self.old)) }
+        requires runs { IsSome (after_all (map instruction_of slice.now) (state self.old)) }
         requires short { length slice.now ≤ most_slice_steps }
         ensures state { OnOk result
-            (after_all (map placed_of slice.now) (state self.old) ≡ Some (state self.new)) }
+            (after_all (map instruction_of slice.now) (state self.old) ≡ Some (state self.new)) }
         ensures entry { OnOk result (entries_of journal.new.items
             ≡ entries_of journal.old.items ++ run 0 (length slice.now) ∷ []) }
     {
@@ -126,7 +126,7 @@ impl Machine {
 }
 
 /// The instructions of the next turn, and those behind it.
-fn split_turn(rest: &[Placed]) -> (&[Placed], &[Placed])
+fn split_turn(rest: &[Instruction]) -> (&[Instruction], &[Instruction])
     requires { 0 < length rest.now }
     ensures parts { rest.now ≡ result.0.now ++ result.1.now }
     ensures turn { IsTurn result.0.now result.1.now }

@@ -1,5 +1,5 @@
-//! Laws of verifying a world, of the definitions alone: a world has no failure exactly where each of
-//! its methods is well typed, and its failure is that of the first method that isn't.
+//! Laws of verifying a world, of the definitions alone: a world has no failure exactly where each
+//! of its methods is well typed, and its failure is that of the first method that isn't.
 //!
 //! Each law is the contract of a function that does nothing, and `specs/Laws` says it; the words
 //! stand in `specs/Failures`. They stand on `typing_laws`, which says the same of one method. The

@@ -1,5 +1,5 @@
 -- A first line that is wrong, and one that is right.
-use Rattle.std.proofs.Common.{◌≡◌, Result, subst}
+use Rattle.std.proofs.Common.{Result, subst}
 use Rattle.jv_model.specs.ClassData.{ClassData}
 use Rattle.text_model.specs.LineFaults.{Fault}
 use Rattle.class_asm.specs.Assembles.{Assembles}

@@ -8,7 +8,6 @@ use Rattle.assembler_model.specs.PoolNeeds.{all_needs}
 use Rattle.assembler_model.specs.AssembledClass.{class_unless}
 use Rattle.asm_parts.specs.Parts.{parts_of}
 use Rattle.asm_parts.specs.Pools.{entries_in}
-use Rattle.asm_pool.specs.Needs.{needs_of}
 use Rattle.class_asm.specs.Assembles.{Assembles}
 use Rattle.class_asm.proofs.assembler.assemble_filled.Goals as goal
 

@@ -1,8 +1,8 @@
 -- The first fault of all that are noted, or the class.
-use Rattle.std.proofs.Common.{◌≡◌, [], None, Some, Ok, Err, Option, option_map, ap, sym, ◌∙◌}
+use Rattle.std.proofs.Common.{Ok, Option, option_map, ap, sym, ◌∙◌}
 use Rattle.jv_model.specs.Fallible.{unless}
 use Rattle.jv_model.specs.Utf16.{units_of_utf8}
-use Rattle.text_model.specs.LineFaults.{Fault, first_fault}
+use Rattle.text_model.specs.LineFaults.{Fault}
 use Rattle.assembler_model.specs.AssembledClass.{class_said, faults_behind_head}
 use Rattle.asm_parts.specs.Faults.{fault_of, told_by}
 use Rattle.asm_parts.specs.Parts.{parts_of}

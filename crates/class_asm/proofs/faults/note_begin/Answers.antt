@@ -1,5 +1,5 @@
 -- An empty block has no first line.
-use Rattle.std.proofs.Common.{◌≡◌, length, ap, sym, ◌∙◌, arith}
+use Rattle.std.proofs.Common.{length, ap, sym, ◌∙◌, arith}
 use Rattle.text_model.specs.LineFaults.{first_fault}
 use Rattle.asm_parts.specs.Faults.{either, told_by}
 use Rattle.asm_code.proofs.FaultLemmas.{none_noted}

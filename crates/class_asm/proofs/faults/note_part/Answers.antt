@@ -1,5 +1,5 @@
 -- Five lists of faults, one after another.
-use Rattle.std.proofs.Common.{◌≡◌, ◌++◌, ap, sym, ◌∙◌}
+use Rattle.std.proofs.Common.{◌≡◌, ap, ◌∙◌}
 use Rattle.std.proofs.lemmas.Result.{on_ok_weaker}
 use Rattle.jv_model.specs.Refusal.{open_block}
 use Rattle.text_model.specs.LineFaults.{at_line, first_fault, unless_true}

@@ -1,5 +1,5 @@
 -- A kind is noted at its line, and else nothing.
-use Rattle.std.proofs.Common.{◌≡◌, Ok, Err, ap, sym, ◌∙◌}
+use Rattle.std.proofs.Common.{ap, sym, ◌∙◌}
 use Rattle.jv_types.specs.Refusal.{line_kind_of}
 use Rattle.text_model.specs.LineFaults.{first_fault}
 use Rattle.assembler_model.specs.AssembledClass.{said_faults_of}

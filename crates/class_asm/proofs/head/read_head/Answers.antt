@@ -1,5 +1,5 @@
 -- What is wrong with the first line.
-use Rattle.std.proofs.Common.{◌≡◌, false, ap, sym, ◌∙◌}
+use Rattle.std.proofs.Common.{ap, sym, ◌∙◌}
 use Rattle.jv_model.specs.Lines.{lines_of, words_of}
 use Rattle.jv_types.specs.Lines.{line_view}
 use Rattle.assembler_model.specs.AssembledClass.{is_head}

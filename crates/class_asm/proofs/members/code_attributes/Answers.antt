@@ -1,5 +1,5 @@
 -- The attribute that the first line of the block asks for.
-use Rattle.std.proofs.Common.{rules, ◌≡◌, Ok, length, ap, sym, ◌∙◌, arith, ◌≤◌, get_or}
+use Rattle.std.proofs.Common.{rules, ◌≡◌, Ok, length, ap, ◌∙◌, arith, ◌≤◌, get_or}
 use Rattle.assembler_model.specs.AssemblerTerms.{stack_is}
 use Rattle.assembler_model.specs.AssembledClass.{code_of}
 use Rattle.assembler_model.specs.AssemblerPool.{index_in, is_too_far}

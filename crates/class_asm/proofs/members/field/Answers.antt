@@ -1,5 +1,5 @@
 -- The name, the descriptor and the constant value are near.
-use Rattle.std.proofs.Common.{◌≡◌, [], ◌∷◌, ap, sym, ◌∙◌}
+use Rattle.std.proofs.Common.{◌∷◌}
 use Rattle.jv_model.specs.Utf16.{units_of_utf8}
 use Rattle.assembler_model.specs.PoolEntries.{text_entry}
 use Rattle.assembler_model.specs.PoolNeeds.{value_entries}

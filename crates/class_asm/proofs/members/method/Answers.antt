@@ -1,5 +1,5 @@
 -- The name and the descriptor are near.
-use Rattle.std.proofs.Common.{◌≡◌, [], ◌∷◌, ap, sym, ◌∙◌}
+use Rattle.std.proofs.Common.{[], ◌∷◌}
 use Rattle.jv_model.specs.Utf16.{units_of_utf8}
 use Rattle.assembler_model.specs.PoolEntries.{text_entry}
 use Rattle.asm_parts.specs.Pools.{entries_in}

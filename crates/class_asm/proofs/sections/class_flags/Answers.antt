@@ -1,5 +1,5 @@
 -- The first line that tells flags.
-use Rattle.std.proofs.Common.{◌≡◌, ◌+◌, ◌∷◌, drop, ap, sym, ◌∙◌, arith, refl}
+use Rattle.std.proofs.Common.{◌+◌, drop, ap, sym, ◌∙◌, arith}
 use Rattle.std.specs.Prelude.{slice_get, unwrap_or}
 use Rattle.std.proofs.lemmas.List.{drop_all}
 use Rattle.assembler_model.specs.AssembledClass.{all_of, default_flags, flags_of}

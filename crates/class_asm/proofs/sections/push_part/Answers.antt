@@ -1,5 +1,4 @@
 -- Each of the four lists grows by what the line says.
-use Rattle.std.proofs.Common.{◌≡◌, ap, sym, ◌∙◌}
 use Rattle.std.proofs.lemmas.Result.{on_ok_weaker}
 use Rattle.jv_types.specs.ClassData.{attr_of, member_of}
 use Rattle.asm_parts.specs.Parts.{part_of}

@@ -1,7 +1,7 @@
 -- Part by part.
 use Rattle.std.proofs.Common.{List, take, subst, arith}
 use Rattle.assembler_model.specs.AssemblerOrder as model
-use Rattle.asm_parts.specs.Parts.{part_of, parts_of}
+use Rattle.asm_parts.specs.Parts.{parts_of}
 use Rattle.asm_parts.specs.Pools.{entries_in}
 use Rattle.class_asm.specs.Sections.{IsSaid}
 use Rattle.class_asm.proofs.NearLemmas.{at_near}

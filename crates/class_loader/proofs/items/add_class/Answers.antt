@@ -1,7 +1,10 @@
-use Rattle.std.proofs.Common.{[], ◌∷◌, ap, ◌∙◌}
+use Rattle.std.proofs.Common.{[], ◌∷◌, sym, ap, subst, ◌∙◌}
+use Rattle.std.specs.List.{AllByRecursion}
 use Rattle.std.proofs.lemmas.List.{map-append}
 use Rattle.std.proofs.lemmas.Result.{err_from_is_err_and}
 use Rattle.jv_types.specs.Loaded.{loaded_of}
+use Rattle.linked_laws.specs.Worlds.{IsReadClass}
+use Rattle.linked_laws.proofs.Lists.{all_append}
 use Rattle.manifest_reader.specs.Items.{class_of}
 use Rattle.class_loader.specs.Classes.{class_loaded}
 use Rattle.class_loader.specs.Items.{classes_of}
@@ -41,3 +44,9 @@ returns-in_err-push-clause-class g c = λ others.
     rw (error.1, error.2)
     (class_starves c.args.number c.args.gathered.now.bytes (class_of c.args.item.now) others
     (class_loaded c.in_ok-loaded.loaded) files c.in_ok-loaded.ensures.loaded)
+
+pub returns-clause-read : goal.returns-clause-read
+returns-clause-read g c = λ fits. λ before.
+    let here = c.in_ok-loaded.ensures.read fits in
+    let same = ap classes_of c.in_ok-push.ensures.ok ∙ map-append loaded_of _ _ in
+    subst (AllByRecursion IsReadClass) (sym same) (all_append IsReadClass _ _ before (here, tt))

@@ -1,7 +1,6 @@
 use Rattle.std.proofs.Common.{[], sym}
 use Rattle.std.proofs.lemmas.List.{append-nil}
-use Rattle.manifest_reader.specs.Items.{item_of, update_of}
-use Rattle.class_loader.specs.Items.{classes_in}
+use Rattle.manifest_reader.specs.Items.{update_of}
 use Rattle.class_loader.specs.Outside.{read}
 use Rattle.class_loader.proofs.ItemLemmas.{update_passed}
 use Rattle.class_loader.proofs.items.add_item.Goals as goal

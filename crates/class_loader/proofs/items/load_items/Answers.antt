@@ -1,12 +1,16 @@
-use Rattle.std.proofs.Common.{◌≡◌, ℕ, ◌+◌, ◌≤◌, List, [], ◌∷◌, ◌++◌, drop, length, map, refl, sym, ap, subst, ◌∙◌, arith}
+use Rattle.std.proofs.Common.{◌≡◌, ℕ, ◌+◌, List, [], Some, drop, map, refl, sym, ap, subst, ◌∙◌, arith}
+use Rattle.std.specs.Prelude.{All, option_map, slice_get}
 use Rattle.std.proofs.lemmas.List.{drop_all}
+use Rattle.std.proofs.lemmas.Option.{get_or_from_slice_get, slice_get-map, slice_get_within}
 use Rattle.std.proofs.lemmas.Result.{err_from_is_err_and}
-use Rattle.jv_model.specs.LoadedClass.{LoadedClass}
+use Rattle.jv_model.specs.Limits.{most_file_bytes}
 use Rattle.jv_model.specs.Outside.{Folder}
 use Rattle.manifest_model.specs.Manifest.{ManifestItem}
+use Rattle.manifest_laws.specs.Laws.{BlockIsWithin}
 use Rattle.code_reader.proofs.Starts.{drop_item}
-use Rattle.load_model.specs.Loading.{Loading, yields}
+use Rattle.load_model.specs.Loading.{yields}
 use Rattle.load_model.specs.LoadItems.{load_items}
+use Rattle.manifest_reader.specs.declared.item.ManifestItem as read_items
 use Rattle.manifest_reader.specs.Items.{item_of}
 use Rattle.load_model.specs.Reads.{Read}
 use Rattle.class_loader.specs.declared.stop.Stop.{Stop}
@@ -27,6 +31,16 @@ stops_same : {stop : Stop} (files : Read) (number before : ℕ) (here there : Li
 stops_same {stop} files number before here there same stopped =
     subst (λ items. StopsAt files (λ folder. load_items folder number before items) stop) (sym same)
     stopped
+
+item_fits : (items : List read_items.ManifestItem) (k : ℕ) (item : read_items.ManifestItem)
+    → All (BlockIsWithin most_file_bytes) (map item_of items) → slice_get items k ≡ Some item
+    → BlockIsWithin most_file_bytes (item_of item)
+item_fits items k item fits is =
+    let there : slice_get (map item_of items) k ≡ Some (item_of item) =
+    slice_get-map item_of items k ∙ ap (option_map item_of) is in
+    subst (BlockIsWithin most_file_bytes)
+    (get_or_from_slice_get (map item_of items) k (item_of item) (item_of item) there)
+    (fits k (item_of item) (slice_get_within (map item_of items) k (item_of item) there))
 
 pub loop-index-preserved : goal.loop-index-preserved
 loop-index-preserved g c =
@@ -56,6 +70,9 @@ loop-index-preserved g c =
           }) c.loop-index.invariant.came
           (subst (λ list. CameSoFar files_then
           (λ folder. load_items folder (index + 1) bytes list) rest added.0) (sym seam) added.2));
+      read = λ fits.
+          c.in_ok-add_item.ensures.read (item_fits items index c.get.result.now fits c.get.ensures)
+          (c.loop-index.invariant.read fits);
       within = c.add_item.ensures.within;
     }
 

@@ -2,7 +2,7 @@ use Rattle.std.proofs.lemmas.Result.{err_from_is_err_and}
 use Rattle.class_loader.specs.Outside.{read}
 use Rattle.manifest_reader.specs.Statements.{manifest_view}
 use Rattle.class_loader.specs.Items.{classes_in}
-use Rattle.straight_line.specs.Programs.{program}
+use Rattle.jvolve_top.specs.Programs.{verified_of}
 use Rattle.jvolve_top.proofs.LoadLemmas.{items_stop, items_go_on}
 use Rattle.jvolve_top.proofs.load.load_manifest.Goals as goal
 
@@ -20,6 +20,6 @@ returns-clause-loaded g c =
     let files =
     read g.F.Files.folder g.F.Files.asked g.F.Files.faults c.args.files.now
     c.load_items.new.files in
-    items_go_on (manifest_view c.args.manifest.now) program c.program_of.result files
+    items_go_on (manifest_view c.args.manifest.now) verified_of c.verified_program.result files
     (classes_in c.in_ok-classes.classes) c.in_ok-classes.ensures.loaded
-    c.program_of.ensures.program
+    c.verified_program.ensures.program

@@ -2,7 +2,9 @@ use Rattle.std.proofs.lemmas.Result.{err_from_is_err_and}
 use Rattle.class_loader.specs.Outside.{read}
 use Rattle.std.proofs.Common.{refl}
 use Rattle.manifest_reader.specs.Statements.{manifest_view}
-use Rattle.straight_line.specs.Programs.{program}
+use Rattle.jv_model.specs.Limits.{most_file_bytes}
+use Rattle.manifest_laws.proofs.LengthLemmas.{blocks_are_within}
+use Rattle.jvolve_top.specs.Programs.{verified_of}
 use Rattle.jvolve_top.proofs.LoadLemmas.{manifest_stops, manifest_is_faulty, manifest_goes_on}
 use Rattle.jvolve_top.proofs.load.load_program.Goals as goal
 
@@ -33,10 +35,17 @@ returns-clause-loaded g c =
     let files_then =
     read g.F.Files.folder g.F.Files.asked g.F.Files.faults c.read_file.new.files
     c.load_manifest.new.files in
-    manifest_goes_on c.args.name.now files c.in_ok-text.text.items c.in_ok-text.ensures.loaded program
+    manifest_goes_on c.args.name.now files c.in_ok-text.text.items c.in_ok-text.ensures.loaded verified_of
     c.load_manifest.result (manifest_view c.in_ok-manifest.manifest)
     (rw c.as_slice.ensures at c.in_ok-manifest.ensures.manifest) files_then (record {
       folder = c.in_ok-text.ensures.folder;
       asked = refl;
       faults = refl;
     }) c.load_manifest.ensures.loaded
+
+-- no block is longer than the text that it stands in
+pub load_manifest-requires : goal.load_manifest-requires
+load_manifest-requires g c =
+    blocks_are_within most_file_bytes c.in_ok-text.text.items
+    (manifest_view c.in_ok-manifest.manifest)
+    (rw c.as_slice.ensures at c.in_ok-manifest.ensures.manifest) c.in_ok-text.ensures.within

@@ -1,4 +1,4 @@
-use Rattle.std.proofs.Common.{◌≡◌, ℕ, List, map, ap, sym, subst, refl, ◌∙◌}
+use Rattle.std.proofs.Common.{ℕ, List, map, ap, sym, subst, refl, ◌∙◌}
 use Rattle.std.specs.List.{All}
 use Rattle.std.proofs.lemmas.Result.{IfOk-weaker}
 use Rattle.jv_model.specs.Code.{Placed}

@@ -8,9 +8,12 @@ use Rattle.stackmap_verify.proofs.methods.verify_class.Goals as goal
 pub returns-in-Boot : goal.returns-in-Boot
 returns-in-Boot g c =
     let w = c.args.world.now in
-    let told = c.class-class.ensures in
-    (told.0, told.1, boot_passes w (names_of w) c.in-Boot.field-0 told.0
-      (ap (class_of_origin (names_of w)) (sym c.in-Boot.is) ∙ told.2.origin))
+    let told = c.class-class.ensures in (
+      told.0,
+      told.1,
+      boot_passes w (names_of w) c.in-Boot.field-0 told.0
+          (ap (class_of_origin (names_of w)) (sym c.in-Boot.is) ∙ told.2.origin),
+    )
 
 pub verify_members-requires-clause-class : goal.verify_members-requires-clause-class
 verify_members-requires-clause-class g c =

@@ -1,4 +1,5 @@
 use Rattle.std.proofs.Common.{ℕ, ◌+◌, ◌==◌, Some, ap, sym, subst, refl, ◌∙◌, arith}
+use Rattle.std.specs.List.Sorted.{IsPermutation}
 use Rattle.jv_types.specs.Instructions.{placed_of}
 use Rattle.jv_types.specs.Refusal.{rule_of}
 use Rattle.stackmap_verify.specs.Visits.{flow_of, Stops}
@@ -13,6 +14,7 @@ loop-number-preserved g c =
     let flow = flow_of w c.loop-number.flow in
     let placed = placed_of c.get-insn.result.now in
     record {
+      cover = subst (IsPermutation method.code.now.body.now.handlers.items) (sym c.in-Ok.ensures.rows) c.loop-number.invariant.cover;
       known = c.in-Ok.ensures.known;
       so_far = λ e is start.
           let leaves = c.in-Ok.ensures.leaves e is (visit_here method e is flow n placed c.get-insn.ensures) refl refl

@@ -1,4 +1,5 @@
 use Rattle.std.proofs.Common.{◌≡◌}
+use Rattle.std.specs.List.Sorted.{IsPermutation}
 use Rattle.std.specs.Option.{IfSome}
 use Rattle.typing_model.specs.Environment.{Environment}
 use Rattle.typing_model.specs.DescriptorFrame.{descriptor_frame}
@@ -12,6 +13,7 @@ use Rattle.stackmap_verify.proofs.pass.first_place.Given as goal
 -- the place is that of the instructions that are left
 abbrev pub invariant-loop-number : goal.invariant-loop-number
 invariant-loop-number g l = record {
+  cover : IsPermutation l.method.code.now.body.now.handlers.items l.cover.rows;
   known : IfSome l.flow (IsKnownFrame l.method.world.now);
   so_far : (e : Environment) → IsMethod l.method e → descriptor_frame e ≡ frame_of l.method.world.now l.fn.start
       → place_from e (flow_of l.method.world.now l.flow) l.number ≡ first_place e (visits e);

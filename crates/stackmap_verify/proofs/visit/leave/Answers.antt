@@ -1,4 +1,3 @@
-use Rattle.std.proofs.Common.{ap}
 use Rattle.std.proofs.lemmas.Result.{err_from_is_err_and}
 use Rattle.jv_model.specs.Flow.{goes_on}
 use Rattle.code_model.specs.Names.{operand_at, named_placed}
@@ -12,7 +11,7 @@ pub returns-then-branch-clause-leaves : goal.returns-then-branch-clause-leaves
 returns-then-branch-clause-leaves g c = λ e is v placed last has.
     let method = c.args.method.now in
     handler_stops e v (named_placed (pool_of method.code.now.pool.now) (placed_of c.args.insn.now)) placed
-    (frame_of method.world.now c.args.frame) has c.in_ok-one_misfits.field-0 (c.in_ok-one_misfits.ensures e is) c.if-branch.true
+    (frame_of method.world.now c.args.frame) has c.in_ok-one_misfits.field-0 (c.in_ok-one_misfits.ensures.misfits e is) c.if-branch.true
 
 pub returns-in_err-after-clause-leaves : goal.returns-in_err-after-clause-leaves
 returns-in_err-after-clause-leaves g c = λ e is v placed last has.
@@ -21,7 +20,7 @@ returns-in_err-after-clause-leaves g c = λ e is v placed last has.
     rw (error.1, error.2)
     (step_stops method.world.now e v _ (c.in_err-after.ensures.steps e is v placed has.is_frame)
     (operand_stops e v (named_placed (pool_of method.code.now.pool.now) (placed_of c.args.insn.now)) placed
-    (frame_of method.world.now c.args.frame) has c.in_ok-one_misfits.field-0 (c.in_ok-one_misfits.ensures e is) c.if-branch.false))
+    (frame_of method.world.now c.args.frame) has c.in_ok-one_misfits.field-0 (c.in_ok-one_misfits.ensures.misfits e is) c.if-branch.false))
 
 pub returns-then-not-branch-clause-leaves : goal.returns-then-not-branch-clause-leaves
 returns-then-not-branch-clause-leaves g c = λ e is v placed last has.
@@ -29,7 +28,7 @@ returns-then-not-branch-clause-leaves g c = λ e is v placed last has.
     let pool = pool_of method.code.now.pool.now in
     let steps = c.in_ok-after.ensures.steps e is v placed has.is_frame in
     target_stops e v (named_placed pool (placed_of c.args.insn.now)) placed
-    (frame_of method.world.now c.args.frame) has c.in_ok-one_misfits.field-0 (c.in_ok-one_misfits.ensures e is) c.if-branch.false
+    (frame_of method.world.now c.args.frame) has c.in_ok-one_misfits.field-0 (c.in_ok-one_misfits.ensures.misfits e is) c.if-branch.false
     (frame_of method.world.now c.in_ok-after.after) steps.0 steps.1
     c.in_ok-goes_to_targets.field-0 (c.in_ok-goes_to_targets.ensures e is (operand_at pool)) c.if-not-branch.true
 
@@ -39,7 +38,7 @@ returns-then-runs_out-clause-leaves g c = λ e is v placed last has.
     let pool = pool_of method.code.now.pool.now in
     let steps = c.in_ok-after.ensures.steps e is v placed has.is_frame in
     end_stops e v (named_placed pool (placed_of c.args.insn.now)) placed
-    (frame_of method.world.now c.args.frame) has c.in_ok-one_misfits.field-0 (c.in_ok-one_misfits.ensures e is) c.if-branch.false
+    (frame_of method.world.now c.args.frame) has c.in_ok-one_misfits.field-0 (c.in_ok-one_misfits.ensures.misfits e is) c.if-branch.false
     (frame_of method.world.now c.in_ok-after.after) steps.0 steps.1
     c.in_ok-goes_to_targets.field-0 (c.in_ok-goes_to_targets.ensures e is (operand_at pool)) c.if-not-branch.false
     c.runs_out.result c.args.is_last last (c.runs_out.ensures (operand_at pool)) c.if-runs_out.true
@@ -51,7 +50,7 @@ returns-clause-leaves g c = λ e is v placed last has.
     let here = named_placed pool (placed_of c.args.insn.now) in
     let steps = c.in_ok-after.ensures.steps e is v placed has.is_frame in (
       goes_further e v here placed (frame_of method.world.now c.args.frame) has c.in_ok-one_misfits.field-0
-          (c.in_ok-one_misfits.ensures e is) c.if-branch.false (frame_of method.world.now c.in_ok-after.after) steps.0 steps.1
+          (c.in_ok-one_misfits.ensures.misfits e is) c.if-branch.false (frame_of method.world.now c.in_ok-after.after) steps.0 steps.1
           c.in_ok-goes_to_targets.field-0 (c.in_ok-goes_to_targets.ensures e is (operand_at pool)) c.if-not-branch.false
           c.runs_out.result c.args.is_last last (c.runs_out.ensures (operand_at pool)) c.if-runs_out.false,
       flow_further method.world.now e v here placed c.in_ok-after.after c.flow_after.result steps.1 (c.flow_after.ensures (operand_at pool)),

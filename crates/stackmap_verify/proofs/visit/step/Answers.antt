@@ -1,4 +1,3 @@
-use Rattle.std.proofs.Common.{refl}
 use Rattle.std.proofs.lemmas.Result.{err_from_is_err_and}
 use Rattle.code_model.specs.Names.{named_placed}
 use Rattle.jv_types.specs.ClassData.{pool_of}

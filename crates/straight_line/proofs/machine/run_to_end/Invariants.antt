@@ -1,6 +1,6 @@
 use Rattle.std.proofs.Common.{length, map}
 use Rattle.jv_types.specs.Entry.{entries_of}
-use Rattle.straight_line.specs.Body.{placed_of}
+use Rattle.straight_line.specs.Body.{instruction_of}
 use Rattle.straight_line.specs.Programs.{program}
 use Rattle.straight_line.specs.Runs.{state}
 use Rattle.straight_line.proofs.RunLemmas.{IsUnderWay}
@@ -8,7 +8,7 @@ use Rattle.straight_line.proofs.machine.run_to_end.Given as goal
 
 abbrev pub invariant-loop-rest : goal.invariant-loop-rest
 invariant-loop-rest l =
-    IsUnderWay (program l.body) (entries_of l.journal.items) (map placed_of l.rest)
+    IsUnderWay (program l.body) (entries_of l.journal.items) (map instruction_of l.rest)
     (state l.machine)
 
 abbrev pub decreases-loop-rest : goal.decreases-loop-rest

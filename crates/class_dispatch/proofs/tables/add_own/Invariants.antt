@@ -1,0 +1,11 @@
+use Rattle.std.proofs.Common.{◌≡◌, ℕ, drop}
+use Rattle.std.specs.Option.{option_or}
+use Rattle.selection_table.specs.Selection.{selected_in}
+use Rattle.class_dispatch.specs.Tables.{key_of, own_in}
+use Rattle.class_dispatch.proofs.tables.add_own.Given as goal
+
+-- the table has the methods so far
+abbrev pub invariant-loop-index : goal.invariant-loop-index
+invariant-loop-index l =
+    (slot : ℕ) → option_or (selected_in l.table (key_of slot)) (own_in l.slots l.class l.index (drop l.index l.row.items) slot)
+    ≡ option_or (selected_in l.fn.table (key_of slot)) (own_in l.slots l.class 0 l.row.items slot)

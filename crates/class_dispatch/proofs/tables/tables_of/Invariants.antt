@@ -1,0 +1,11 @@
+use Rattle.std.proofs.Common.{◌≡◌, ◌++◌, ℕ, map, drop}
+use Rattle.selection_table.specs.Selection.{selected_in}
+use Rattle.class_dispatch.specs.Tables.{key_of, chain_in}
+use Rattle.class_dispatch.proofs.tables.tables_of.Given as goal
+
+-- the tables so far, and those of the chains that are left
+abbrev pub invariant-loop-chain : goal.invariant-loop-chain
+invariant-loop-chain l =
+    (slot : ℕ) → map (λ t. selected_in t (key_of slot)) l.tables.items
+    ++ map (λ chain. chain_in l.slots l.rows.items chain.items slot) (drop l.chain-index l.chains)
+    ≡ map (λ chain. chain_in l.slots l.rows.items chain.items slot) l.chains

@@ -1,0 +1,5 @@
+use Rattle.program_laws.proofs.Verified.{verified_is_runnable}
+use Rattle.program_laws.proofs.program.verified_is_runnable.Goals as goal
+
+pub returns : goal.returns
+returns c = verified_is_runnable

@@ -1,0 +1,10 @@
+pub mod Lists
+pub mod Holding
+pub mod Changes
+pub mod Going
+pub mod Roots
+pub mod Locals
+pub mod Families
+pub mod Calls
+pub mod Steps
+pub mod Listed

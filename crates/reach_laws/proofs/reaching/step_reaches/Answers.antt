@@ -1,0 +1,5 @@
+use Rattle.reach_laws.proofs.Steps as laws
+use Rattle.reach_laws.proofs.reaching.step_reaches.Goals as goal
+
+pub returns : goal.returns
+returns c = laws.step_reaches
