@@ -1,8 +1,8 @@
 #!/usr/bin/env bash
 # Times `jvolve check` of the programs that `code_programs.py` makes, of each shape at nearly 4, 8 and
 # 16 MiB, and beside it the time in which `java -Xverify:all` loads and links the same classes. It prints
-# milliseconds of the whole processes, of the least of five runs. Where `link_bench` is built it adds the
-# processor's time of `check`, and what loading (with reading), linking and verifying take of it.
+# milliseconds of the processor of the whole processes, of the least of five runs. Where `link_bench` is
+# built it adds what loading (with reading), linking and verifying take of `check`.
 # JVOLVE and LINK_BENCH are programs in place of those of the crates.
 set -u
 . "$(dirname "$0")/prepare.sh"
@@ -18,22 +18,20 @@ accepted() {
   fi
 }
 parts() {
-  local whole load linked link
-  whole=$(accepted processor_milliseconds "$program" check manifest) &&
-    load=$(accepted processor_milliseconds "$linker" 0 manifest) &&
+  local whole=$1 load linked link
+  load=$(accepted processor_milliseconds "$linker" 0 manifest) &&
     linked=$(accepted processor_milliseconds "$linker" "$links" manifest) || exit 1
   link=$(((linked - load) / links))
-  echo "  of $whole ms of the processor: loaded in $load, linked in $link, verified in" \
-    "$((whole - load - link))"
+  echo "  loaded in $load ms, linked in $link, verified in $((whole - load - link))"
 }
 time_of() {
   local world=$folder/$1-$2 check java
   python3 "$here/code_programs.py" "$1" "$2" "$world" > /dev/null
   cd "$world" || exit 1
-  check=$(accepted milliseconds "$program" check manifest) &&
-    java=$(accepted milliseconds java -Xverify:all -cp "$folder/java" Verify program) || exit 1
+  check=$(accepted processor_milliseconds "$program" check manifest) &&
+    java=$(accepted processor_milliseconds java -Xverify:all -cp "$folder/java" Verify program) || exit 1
   echo "$1, $(cat Main C* | wc -c) bytes: checked in $check ms, loaded by java in $java ms"
-  if [ -x "$linker" ]; then parts; fi
+  if [ -x "$linker" ]; then parts "$check"; fi
   cd "$folder" && rm -r "$world"
 }
 for shape in loops objects handlers; do

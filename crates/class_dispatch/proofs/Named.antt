@@ -14,9 +14,9 @@ use Rattle.class_world.specs.Signatures.{Pair}
 use Rattle.class_world.proofs.Places.{stands_inside}
 use Rattle.class_world.proofs.LookUps.{numbers_inside}
 use Rattle.world_tables.specs.Tables.{chains_of}
-use Rattle.class_methods.specs.Slots.{Slots, slot_at, AreSlots}
+use Rattle.class_methods.specs.Signatures.{Numbers, signature_at, AreSignatures}
 use Rattle.class_dispatch.specs.Rows.{is_selectable, selectable_in}
-use Rattle.class_dispatch.specs.Tables.{place, row_in, HaveSlots, is_inside, are_inside}
+use Rattle.class_dispatch.specs.Tables.{place, row_in, HaveSignatures, is_inside, are_inside}
 
 some_of : (f : ℕ → Option Pair) (o : Option ℕ) (called : Option Pair) → option_map f o ≡ option_map (λ (p : Pair). Some p) called
     → is_some called ≡ true → is_some o ≡ true
@@ -38,9 +38,9 @@ called_some index (Some r) (Some c) is inside =
     (option_map (λ (m : Method). record { class = c.name; member = m }) o))) (stands_inside c.methods index here).1
 
 module _ (world : World) (rows : List (Sequence Bool)) (are : map (λ (r : Sequence Bool). r.items) rows ≡ selectable_in world) where
-  pub have_slots : (slots : Slots) → AreSlots world slots → HaveSlots slots rows
-  have_slots slots is class index inside =
-      some_of (slice_get is.signatures) (slot_at slots (place class index)) _ (is.each_method (place class index))
+  pub have_signatures : (signatures : Numbers) → AreSignatures world signatures → HaveSignatures signatures rows
+  have_signatures signatures is class index inside =
+      some_of (slice_get is.pairs) (signature_at signatures (place class index)) _ (is.each_method (place class index))
       (called_some index (slice_get rows class.0) (slice_get world.classes class.0)
       (sym (slice_get-map (λ (r : Sequence Bool). r.items) rows class.0)
       ∙ ap (λ (l : List (List Bool)). slice_get l class.0) are

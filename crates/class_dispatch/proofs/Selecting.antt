@@ -1,4 +1,4 @@
--- What is selected by slots is what the definitions select by name and descriptor.
+-- What is selected by signatures is what the definitions select by name and descriptor.
 use Rattle.std.proofs.Common.{◌≡◌, ℕ, suc, ◌+◌, ◌==◌, Bool, true, false, not, ◌&&◌, ◌||◌, List, [], ◌∷◌, Option, Some, None, if◌then◌else◌, length, map, find, slice_get, nat_lt, bytes_eq, IsTrue, option_map, option_and_then, ap, sym, subst, ◌∙◌, refl, true≢false, arith}
 use Rattle.std.specs.List.{list_any}
 use Rattle.std.specs.Option.{option_or}
@@ -24,9 +24,9 @@ use Rattle.class_world.proofs.Places.{stands_inside, bytes_eq-symm}
 use Rattle.class_world.proofs.Numbers.{found_at, first_numbered, first_declared-numbers}
 use Rattle.class_world.proofs.LookUps.{numbers_inside}
 use Rattle.world_tables.specs.Tables.{chains_of}
-use Rattle.class_methods.specs.Slots.{Slots, slot_at, called_at, AreSlots}
+use Rattle.class_methods.specs.Signatures.{Numbers, signature_at, called_at, AreSignatures}
 use Rattle.class_dispatch.specs.Rows.{is_selectable, selectable_in}
-use Rattle.class_dispatch.specs.Tables.{key_of, place, same_slot, own_in, row_in, chain_in, is_inside, AreTables}
+use Rattle.class_dispatch.specs.Tables.{key_of, place, same_number, own_in, row_in, chain_in, is_inside, AreTables}
 use Rattle.class_dispatch.specs.Dispatch.{Tables, Selects, selected_by}
 
 -- ---- members of a name and a descriptor
@@ -70,36 +70,36 @@ skipped b t first rest fails = ap (λ (t : Bool). if b && t then first else rest
     by true = refl
     by false = refl
 
-module _ (world : World) (slots : Slots) (are : AreSlots world slots) (once : HaveMembersOnce world) (m : MemberReference) (slot : ℕ)
-    (is_slot : slice_get are.signatures slot ≡ Some (m.name, m.descriptor)) where
-  -- a method has the slot exactly where it has its name and descriptor
-  slot_test : (o : Option ℕ) (x : Method) → option_map (slice_get are.signatures) o ≡ Some (Some (x.name, x.descriptor))
-      → same_slot o slot ≡ has_name m x
-  slot_test None x same = absurd cc
-  slot_test (Some s) x same = by (slot == s) (has_name m x) refl refl
+module _ (world : World) (signatures : Numbers) (are : AreSignatures world signatures) (once : HaveMembersOnce world) (m : MemberReference) (signature : ℕ)
+    (is_signature : slice_get are.pairs signature ≡ Some (m.name, m.descriptor)) where
+  -- a method has the signature exactly where it has its name and descriptor
+  signature_test : (o : Option ℕ) (x : Method) → option_map (slice_get are.pairs) o ≡ Some (Some (x.name, x.descriptor))
+      → same_number o signature ≡ has_name m x
+  signature_test None x same = absurd cc
+  signature_test (Some s) x same = by (signature == s) (has_name m x) refl refl
     where
-      at : slice_get are.signatures s ≡ Some (x.name, x.descriptor)
+      at : slice_get are.pairs s ≡ Some (x.name, x.descriptor)
       at = cc
 
-      named : slot ≡ s → has_name m x ≡ true
+      named : signature ≡ s → has_name m x ≡ true
       named is =
-          let one : Some (x.name, x.descriptor) ≡ Some (m.name, m.descriptor) = sym at ∙ ap (slice_get are.signatures) (sym is) ∙ is_slot in
+          let one : Some (x.name, x.descriptor) ≡ Some (m.name, m.descriptor) = sym at ∙ ap (slice_get are.pairs) (sym is) ∙ is_signature in
           let pair : (x.name, x.descriptor) ≡ (m.name, m.descriptor) = cc in
           let name = (bytes_eq-Decides x.name m.name).1 (ap (λ (p : Pair). p.0) pair) in
           let descriptor = (bytes_eq-Decides x.descriptor m.descriptor).1 (ap (λ (p : Pair). p.1) pair) in
           λ i. name i && descriptor i
 
-      numbered : has_name m x ≡ true → slot ≡ s
+      numbered : has_name m x ≡ true → signature ≡ s
       numbered has =
           let is = names_are m x has in
           let pair : Some (x.name, x.descriptor) ≡ Some (m.name, m.descriptor) = λ i. Some (is.0 i, is.1 i) in
-          are.apart slot s (m.name, m.descriptor) is_slot (at ∙ pair)
+          are.apart signature s (m.name, m.descriptor) is_signature (at ∙ pair)
 
-      by : (b t : Bool) → (slot == s) ≡ b → has_name m x ≡ t → (slot == s) ≡ has_name m x
+      by : (b t : Bool) → (signature == s) ≡ b → has_name m x ≡ t → (signature == s) ≡ has_name m x
       by true true is_b is_t = is_b ∙ sym is_t
       by false false is_b is_t = is_b ∙ sym is_t
-      by true false is_b is_t = absurd (true≢false (sym (named ((Decides-eqb slot s).0 is_b)) ∙ is_t))
-      by false true is_b is_t = absurd (true≢false (sym ((Decides-eqb slot s).1 (numbered is_t)) ∙ is_b))
+      by true false is_b is_t = absurd (true≢false (sym (named ((Decides-eqb signature s).0 is_b)) ∙ is_t))
+      by false true is_b is_t = absurd (true≢false (sym ((Decides-eqb signature s).1 (numbered is_t)) ∙ is_b))
 
   -- ---- one class
 
@@ -109,9 +109,9 @@ module _ (world : World) (slots : Slots) (are : AreSlots world slots) (once : Ha
         ap (option_and_then (λ (c : Class). option_map (found c.name) (slice_get c.methods i))) there
         ∙ ap (option_map (found class.name)) at
 
-    tests : (i : ℕ) (x : Method) → slice_get class.methods i ≡ Some x → same_slot (slot_at slots (place k i)) slot ≡ has_name m x
+    tests : (i : ℕ) (x : Method) → slice_get class.methods i ≡ Some x → same_number (signature_at signatures (place k i)) signature ≡ has_name m x
     tests i x at =
-        slot_test (slot_at slots (place k i)) x
+        signature_test (signature_at signatures (place k i)) x
         (are.each_method (place k i)
         ∙ ap (λ (o : Option (Found Method)). option_map (λ (p : Pair). Some p) (option_map (λ (f : Found Method). method_signature f.member) o)) (placed i x at))
 
@@ -127,12 +127,12 @@ module _ (world : World) (slots : Slots) (are : AreSlots world slots) (once : Ha
         subst (λ (n : ℕ). slice_get class.methods n ≡ Some y) (omega arith) (stand (suc i) y at)
 
     none_own : (index : ℕ) (rest : List Method) → StandAt index rest → list_any (has_name m) rest ≡ false
-        → own_in slots k index (map is_selectable rest) slot ≡ None
+        → own_in signatures k index (map is_selectable rest) signature ≡ None
     none_own index [] stand none = refl
     none_own index (x ∷ rest) stand none =
         let parts = or_parts (has_name m x) (list_any (has_name m) rest) none in
-        skipped (is_selectable x) (same_slot (slot_at slots (place k index)) slot) (Some (place k index))
-        (own_in slots k (index + 1) (map is_selectable rest) slot)
+        skipped (is_selectable x) (same_number (signature_at signatures (place k index)) signature) (Some (place k index))
+        (own_in signatures k (index + 1) (map is_selectable rest) signature)
         (tests index x (first_at index x rest stand) ∙ parts.0)
         ∙ none_own (index + 1) rest (rest_at index x rest stand) parts.1
 
@@ -156,14 +156,14 @@ module _ (world : World) (slots : Slots) (are : AreSlots world slots) (once : Ha
     one_own false false p own x later at is agree none = agree
 
     own_selects : (index : ℕ) (rest : List Method) → StandAt index rest → has_twice same_method rest ≡ false
-        → option_map (method_at world) (own_in slots k index (map is_selectable rest) slot)
+        → option_map (method_at world) (own_in signatures k index (map is_selectable rest) signature)
         ≡ named_as (option_and_then unless_hidden (find (has_name m) rest))
     unfolding has_twice
     own_selects index [] stand alone = refl
     own_selects index (x ∷ rest) stand alone =
         let parts = or_parts (list_any (same_method x) rest) (has_twice same_method rest) alone in
         let at = first_at index x rest stand in
-        let own = own_in slots k (index + 1) (map is_selectable rest) slot in
+        let own = own_in signatures k (index + 1) (map is_selectable rest) signature in
         ap (λ (t : Bool). option_map (method_at world) (if is_selectable x && t then Some (place k index) else own)) (tests index x at)
         ∙ one_own (is_static_method x || is_private x) (has_name m x) (place k index) own x (find (has_name m) rest)
         (placed index x at) refl (own_selects (index + 1) rest (rest_at index x rest stand) parts.1)
@@ -177,7 +177,7 @@ module _ (world : World) (slots : Slots) (are : AreSlots world slots) (once : Ha
         (not-true (has_member_twice class)
         (subst (λ (c : Class). not (has_member_twice c) ≡ true) (get_or_from_slice_get world.classes k.0 class class there) here))).1
 
-    class_selects : option_map (method_at world) (own_in slots k 0 (map is_selectable class.methods) slot)
+    class_selects : option_map (method_at world) (own_in signatures k 0 (map is_selectable class.methods) signature)
         ≡ named_as (selectable m class)
     class_selects = own_selects 0 class.methods (λ i x at. subst (λ (n : ℕ). slice_get class.methods n ≡ Some x) (omega arith) at) methods_once
 
@@ -207,7 +207,7 @@ module _ (world : World) (slots : Slots) (are : AreSlots world slots) (once : Ha
         ∙ ap (option_map (λ (c : Class). map is_selectable c.methods)) there)
 
     chain_selects : (order : List ClassNo) → IsTrue (is_inside (length world.classes) order)
-        → option_map (method_at world) (chain_in slots rows order slot)
+        → option_map (method_at world) (chain_in signatures rows order signature)
         ≡ option_map (λ (f : Found Method). Some f) (first_numbered (selectable m) world.classes order)
     unfolding first_numbered
     chain_selects [] inside = refl
@@ -216,9 +216,9 @@ module _ (world : World) (slots : Slots) (are : AreSlots world slots) (once : Ha
         let behind = and_right (nat_lt k.0 (length world.classes)) (is_inside (length world.classes) ks) inside in
         let there = stands_inside world.classes k.0 here in
         let class = there.0 in
-        let rest = chain_in slots rows ks slot in
-        ap (λ (row : List Bool). option_map (method_at world) (option_or (own_in slots k 0 row slot) rest)) (row_at k class there.1)
-        ∙ one_class (own_in slots k 0 (map is_selectable class.methods) slot) rest (selectable m class) class.name
+        let rest = chain_in signatures rows ks signature in
+        ap (λ (row : List Bool). option_map (method_at world) (option_or (own_in signatures k 0 row signature) rest)) (row_at k class there.1)
+        ∙ one_class (own_in signatures k 0 (map is_selectable class.methods) signature) rest (selectable m class) class.name
         (first_numbered (selectable m) world.classes ks) (class_selects k class there.1) (chain_selects ks behind)
         ∙ sym (ap (λ (o : Option Class). option_map (λ (f : Found Method). Some f)
         (found_at (selectable m) o (first_numbered (selectable m) world.classes ks))) there.1)
@@ -230,30 +230,30 @@ and_then_join : {A B : Type 0} (f : A → Option B) (o : Option A)
 and_then_join f None = refl
 and_then_join f (Some x) = refl
 
-module _ (world : World) (slots : Slots) (rows : List (Sequence Bool)) (chains : List (Sequence ClassNo)) (tables : Tables)
-    (once : HaveMembersOnce world) (are : AreSlots world slots)
+module _ (world : World) (signatures : Numbers) (rows : List (Sequence Bool)) (chains : List (Sequence ClassNo)) (tables : Tables)
+    (once : HaveMembersOnce world) (are : AreSignatures world signatures)
     (rows_are : map (λ (r : Sequence Bool). r.items) rows ≡ selectable_in world)
     (walked : map (λ (c : Sequence ClassNo). c.items) chains ≡ chains_of world)
-    (built : AreTables slots rows chains tables) where
+    (built : AreTables signatures rows chains tables) where
   count : length tables ≡ length world.classes
   count =
       sym (length-map tables (λ (t : Selection). selected_in t (key_of 0)))
       ∙ ap (λ (l : List (Option MethodNo)). length l) (built 0)
-      ∙ length-map chains (λ (c : Sequence ClassNo). chain_in slots rows c.items 0)
+      ∙ length-map chains (λ (c : Sequence ClassNo). chain_in signatures rows c.items 0)
       ∙ sym (length-map chains (λ (c : Sequence ClassNo). c.items))
       ∙ ap (λ (l : List (List ClassNo)). length l) walked
       ∙ length-map world.classes (λ (c : Class). numbers_of world (chain world c.name))
 
   -- a table selects what the classes of its chain have
-  by_chain : (class : ClassNo) (c : Class) (slot : ℕ) → slice_get world.classes class.0 ≡ Some c
-      → selected_by tables class slot ≡ chain_in slots rows (numbers_of world (chain world c.name)) slot
-  by_chain class c slot there =
-      let of = λ (order : List ClassNo). chain_in slots rows order slot in
-      let table = λ (t : Selection). selected_in t (key_of slot) in
+  by_chain : (class : ClassNo) (c : Class) (signature : ℕ) → slice_get world.classes class.0 ≡ Some c
+      → selected_by tables class signature ≡ chain_in signatures rows (numbers_of world (chain world c.name)) signature
+  by_chain class c signature there =
+      let of = λ (order : List ClassNo). chain_in signatures rows order signature in
+      let table = λ (t : Selection). selected_in t (key_of signature) in
       let items = λ (s : Sequence ClassNo). s.items in
       let join = option_and_then (λ (o : Option MethodNo). o) in
       and_then_join table (slice_get tables class.0)
-      ∙ ap join (sym (slice_get-map table tables class.0) ∙ ap (λ (l : List (Option MethodNo)). slice_get l class.0) (built slot)
+      ∙ ap join (sym (slice_get-map table tables class.0) ∙ ap (λ (l : List (Option MethodNo)). slice_get l class.0) (built signature)
       ∙ slice_get-map (λ (s : Sequence ClassNo). of s.items) chains class.0)
       ∙ both (slice_get chains class.0) (numbers_of world (chain world c.name))
       (sym (slice_get-map items chains class.0) ∙ ap (λ (l : List (List ClassNo)). slice_get l class.0) walked
@@ -261,20 +261,20 @@ module _ (world : World) (slots : Slots) (rows : List (Sequence Bool)) (chains :
       ∙ ap (option_map (λ (d : Class). numbers_of world (chain world d.name))) there)
     where
       both : (o : Option (Sequence ClassNo)) (order : List ClassNo) → option_map (λ (s : Sequence ClassNo). s.items) o ≡ Some order
-          → option_and_then (λ (p : Option MethodNo). p) (option_map (λ (s : Sequence ClassNo). chain_in slots rows s.items slot) o)
-          ≡ chain_in slots rows order slot
+          → option_and_then (λ (p : Option MethodNo). p) (option_map (λ (s : Sequence ClassNo). chain_in signatures rows s.items signature) o)
+          ≡ chain_in signatures rows order signature
       both None order is = absurd cc
       both (Some s) order is =
-          let same : s.items ≡ order = cc in ap (λ (l : List ClassNo). chain_in slots rows l slot) same
+          let same : s.items ≡ order = cc in ap (λ (l : List ClassNo). chain_in signatures rows l signature) same
 
-  pub selects : Selects world slots tables
+  pub selects : Selects world signatures tables
   selects = record {
     count = count;
-    each = λ class c m method slot there called at.
-        let is_slot = some_parts (slice_get are.signatures) (slot_at slots method) (called_at world method) slot (m.name, m.descriptor)
+    each = λ class c m method signature there called at.
+        let is_signature = some_parts (slice_get are.pairs) (signature_at signatures method) (called_at world method) signature (m.name, m.descriptor)
         (are.each_method method) at called in
-        ap (option_map (method_at world)) (by_chain class c slot there)
-        ∙ chain_selects world slots are once m slot is_slot rows rows_are (numbers_of world (chain world c.name))
+        ap (option_map (method_at world)) (by_chain class c signature there)
+        ∙ chain_selects world signatures are once m signature is_signature rows rows_are (numbers_of world (chain world c.name))
         (numbers_inside world (chain world c.name))
         ∙ ap (option_map (λ (f : Found Method). Some f)) (sym (first_declared-numbers (selectable m) world (chain world c.name)));
   }

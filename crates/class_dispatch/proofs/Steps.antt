@@ -10,7 +10,7 @@ use Rattle.jv_types.specs.declared.boot.BootMethod.{BootMethod}
 use Rattle.jv_types.specs.declared.number.ClassNo.{ClassNo}
 use Rattle.jv_types.specs.declared.number.MethodNo.{MethodNo}
 use Rattle.class_graph.proofs.Passing.{list_all-get_or}
-use Rattle.class_methods.specs.Slots.{Slots, slot_at}
+use Rattle.class_methods.specs.Signatures.{Numbers, signature_at}
 use Rattle.jv_model.specs.Code.{Body}
 use Rattle.jv_model.specs.ClassData.{Const}
 use Rattle.world_model.specs.World.{World, Class}
@@ -23,7 +23,7 @@ use Rattle.class_world.specs.World.{class_of_origin}
 use Rattle.class_world.specs.declared.class_info.Origin.{Origin}
 use Rattle.class_world.specs.declared.class_info.Origin.TheVariants.{Boot, Program}
 use Rattle.class_dispatch.specs.Rows.{is_selectable, flags_select, methods_in, selectable_in}
-use Rattle.class_dispatch.specs.Tables.{same_slot, place, own_in, row_in, chain_in, RowSlots, HaveSlots, is_inside}
+use Rattle.class_dispatch.specs.Tables.{same_number, place, own_in, row_in, chain_in, RowSignatures, HaveSignatures, is_inside}
 
 pub boot_selectable : (method : BootMethod) → not method.is_static ≡ is_selectable (boot_method_of method)
 boot_selectable method = by method.is_static method.is_native
@@ -47,44 +47,44 @@ or_if : {A : Type 0} (b : Bool) (x : A) (rest : Option A) → option_or (if b th
 or_if true x rest = refl
 or_if false x rest = refl
 
-pub own_next : (slots : Slots) (class : ClassNo) (row : List Bool) (i slot : ℕ) (b : Bool) (old new whole : Option MethodNo)
+pub own_next : (signatures : Numbers) (class : ClassNo) (row : List Bool) (i signature : ℕ) (b : Bool) (old new whole : Option MethodNo)
     → slice_get row i ≡ Some b
-    → new ≡ option_or old (if b && same_slot (slot_at slots (place class i)) slot then Some (place class i) else None)
-    → option_or old (own_in slots class i (drop i row) slot) ≡ whole
-    → option_or new (own_in slots class (i + 1) (drop (i + 1) row) slot) ≡ whole
-own_next slots class row i slot b old new whole at is so_far =
-    let test = b && same_slot (slot_at slots (place class i)) slot in
-    let rest = own_in slots class (i + 1) (drop (i + 1) row) slot in
+    → new ≡ option_or old (if b && same_number (signature_at signatures (place class i)) signature then Some (place class i) else None)
+    → option_or old (own_in signatures class i (drop i row) signature) ≡ whole
+    → option_or new (own_in signatures class (i + 1) (drop (i + 1) row) signature) ≡ whole
+own_next signatures class row i signature b old new whole at is so_far =
+    let test = b && same_number (signature_at signatures (place class i)) signature in
+    let rest = own_in signatures class (i + 1) (drop (i + 1) row) signature in
     ap (λ (o : Option MethodNo). option_or o rest) is
     ∙ or_both old (if test then Some (place class i) else None) rest
     ∙ ap (option_or old) (or_if test (place class i) rest)
-    ∙ sym (at_drop_more (λ (l : List Bool). option_or old (own_in slots class i l slot)) row i b (slice_get_within row i b at)
-    ∙ ap (λ (t : Bool). option_or old (own_in slots class i (t ∷ drop (i + 1) row) slot)) (get_or_from_slice_get row i b b at))
+    ∙ sym (at_drop_more (λ (l : List Bool). option_or old (own_in signatures class i l signature)) row i b (slice_get_within row i b at)
+    ∙ ap (λ (t : Bool). option_or old (own_in signatures class i (t ∷ drop (i + 1) row) signature)) (get_or_from_slice_get row i b b at))
     ∙ so_far
 
-pub own_all : (slots : Slots) (class : ClassNo) (row : List Bool) (i slot : ℕ) (last whole : Option MethodNo) → length row ≤ i
-    → option_or last (own_in slots class i (drop i row) slot) ≡ whole → last ≡ whole
-own_all slots class row i slot last whole past so_far =
-    sym (or_none last) ∙ sym (at_drop_all (λ (l : List Bool). option_or last (own_in slots class i l slot)) row i past) ∙ so_far
+pub own_all : (signatures : Numbers) (class : ClassNo) (row : List Bool) (i signature : ℕ) (last whole : Option MethodNo) → length row ≤ i
+    → option_or last (own_in signatures class i (drop i row) signature) ≡ whole → last ≡ whole
+own_all signatures class row i signature last whole past so_far =
+    sym (or_none last) ∙ sym (at_drop_all (λ (l : List Bool). option_or last (own_in signatures class i l signature)) row i past) ∙ so_far
 
-pub chain_next : (slots : Slots) (rows : List (Sequence Bool)) (chain : List ClassNo) (i slot : ℕ) (class : ClassNo) (row : Sequence Bool)
+pub chain_next : (signatures : Numbers) (rows : List (Sequence Bool)) (chain : List ClassNo) (i signature : ℕ) (class : ClassNo) (row : Sequence Bool)
     (old new whole : Option MethodNo) → i < length chain → class ≡ get_or chain i class → slice_get rows class.0 ≡ Some row
-    → new ≡ option_or old (own_in slots class 0 row.items slot)
-    → option_or old (chain_in slots rows (drop i chain) slot) ≡ whole
-    → option_or new (chain_in slots rows (drop (i + 1) chain) slot) ≡ whole
-chain_next slots rows chain i slot class row old new whole inside here at is so_far =
-    let rest = chain_in slots rows (drop (i + 1) chain) slot in
+    → new ≡ option_or old (own_in signatures class 0 row.items signature)
+    → option_or old (chain_in signatures rows (drop i chain) signature) ≡ whole
+    → option_or new (chain_in signatures rows (drop (i + 1) chain) signature) ≡ whole
+chain_next signatures rows chain i signature class row old new whole inside here at is so_far =
+    let rest = chain_in signatures rows (drop (i + 1) chain) signature in
     ap (λ (o : Option MethodNo). option_or o rest) is
-    ∙ or_both old (own_in slots class 0 row.items slot) rest
-    ∙ ap (λ (r : Option (Sequence Bool)). option_or old (option_or (own_in slots class 0 (row_in r) slot) rest)) (sym at)
-    ∙ sym (at_drop_more (λ (l : List ClassNo). option_or old (chain_in slots rows l slot)) chain i class inside
-    ∙ ap (λ (k : ClassNo). option_or old (chain_in slots rows (k ∷ drop (i + 1) chain) slot)) (sym here))
+    ∙ or_both old (own_in signatures class 0 row.items signature) rest
+    ∙ ap (λ (r : Option (Sequence Bool)). option_or old (option_or (own_in signatures class 0 (row_in r) signature) rest)) (sym at)
+    ∙ sym (at_drop_more (λ (l : List ClassNo). option_or old (chain_in signatures rows l signature)) chain i class inside
+    ∙ ap (λ (k : ClassNo). option_or old (chain_in signatures rows (k ∷ drop (i + 1) chain) signature)) (sym here))
     ∙ so_far
 
-pub chain_all : (slots : Slots) (rows : List (Sequence Bool)) (chain : List ClassNo) (i slot : ℕ) (last whole : Option MethodNo) → length chain ≤ i
-    → option_or last (chain_in slots rows (drop i chain) slot) ≡ whole → last ≡ whole
-chain_all slots rows chain i slot last whole past so_far =
-    sym (or_none last) ∙ sym (at_drop_all (λ (l : List ClassNo). option_or last (chain_in slots rows l slot)) chain i past) ∙ so_far
+pub chain_all : (signatures : Numbers) (rows : List (Sequence Bool)) (chain : List ClassNo) (i signature : ℕ) (last whole : Option MethodNo) → length chain ≤ i
+    → option_or last (chain_in signatures rows (drop i chain) signature) ≡ whole → last ≡ whole
+chain_all signatures rows chain i signature last whole past so_far =
+    sym (or_none last) ∙ sym (at_drop_all (λ (l : List ClassNo). option_or last (chain_in signatures rows l signature)) chain i past) ∙ so_far
 
 -- what stands at a place inside, whatever stands for the places behind
 pub stands_there : (chain : List ClassNo) (i : ℕ) (k : ClassNo) → i < length chain → get_or chain i k ≡ get_or chain i (get_or chain i k)
@@ -98,10 +98,10 @@ class_inside count chain i class all inside is =
     (subst (λ (k : ClassNo). nat_lt k.0 count ≡ true) (sym is)
     (list_all-get_or (λ (k : ClassNo). nat_lt k.0 count) chain i class all inside))
 
-pub row_slots : (slots : Slots) (rows : List (Sequence Bool)) (class : ClassNo) (row : Sequence Bool) → HaveSlots slots rows
-    → slice_get rows class.0 ≡ Some row → RowSlots slots class row.items
-row_slots slots rows class row have at =
-    subst (λ (r : Option (Sequence Bool)). RowSlots slots class (row_in r)) at (have class)
+pub row_signatures : (signatures : Numbers) (rows : List (Sequence Bool)) (class : ClassNo) (row : Sequence Bool) → HaveSignatures signatures rows
+    → slice_get rows class.0 ≡ Some row → RowSignatures signatures class row.items
+row_signatures signatures rows class row have at =
+    subst (λ (r : Option (Sequence Bool)). RowSignatures signatures class (row_in r)) at (have class)
 
 -- ---- classes that were read
 

@@ -12,7 +12,7 @@ use Rattle.class_names.specs.declared.signatures.Signature.{Signature}
 use Rattle.class_world.specs.World.{spelled}
 use Rattle.class_world.specs.Signatures.{Pair, same_pair}
 use Rattle.class_world.proofs.Spelling.{adds_signature}
-use Rattle.class_methods.specs.Slots.{AreApart}
+use Rattle.class_methods.specs.Signatures.{AreApart}
 use Rattle.class_methods.specs.Filling.{GivesNumber}
 
 -- ---- one item more
@@ -21,10 +21,6 @@ pub still_there : {A : Type 0} (xs ys : List A) (i : ℕ) (x : A) → slice_get 
 still_there [] ys i x at = absurd cc
 still_there (y ∷ xs) ys zero x at = at
 still_there (y ∷ xs) ys (suc i) x at = still_there xs ys i x at
-
-pub last_there : {A : Type 0} (xs : List A) (x : A) → slice_get (xs ++ x ∷ []) (length xs) ≡ Some x
-last_there [] x = refl
-last_there (y ∷ xs) x = last_there xs x
 
 -- what stands there stood there before, or is the last one
 pub there_before : {A : Type 0} (xs : List A) (x : A) (i : ℕ) (y : A) → slice_get (xs ++ x ∷ []) i ≡ Some y
@@ -85,7 +81,7 @@ pub gives_number : (texts named more : List (List ℕ)) (rows added : List Signa
     → added ≡ with_item same_signature rows (record { name = n; descriptor = d })
     → is_new ≡ not (list_any (same_signature (record { name = n; descriptor = d })) rows)
     → Some number ≡ position (same_signature (record { name = n; descriptor = d })) added
-    → GivesNumber texts more rows added (name, descriptor) number is_new
+    → GivesNumber texts more rows added (name, descriptor) number
 gives_number texts named more rows added name descriptor n d number is_new adds_name name_at adds_descriptor descriptor_at adds news found =
     let row : Signature = record { name = n; descriptor = d } in
     let adds_it = adds_signature texts named more rows added name descriptor n d is_new adds_name name_at adds_descriptor descriptor_at adds news in
@@ -95,6 +91,7 @@ gives_number texts named more rows added name descriptor n d number is_new adds_
     let second = get_or_from_slice_get more d descriptor [] descriptor_at in
     let spells_it : spelled more row ≡ (name, descriptor) = λ i. (first i, second i) in
     record {
+      is_new = is_new;
       adds = adds_it;
       at = λ pairs is.
           ap (λ (l : List Pair). slice_get l number) (sym ((adds_it.spells pairs is).are))

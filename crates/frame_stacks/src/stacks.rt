@@ -6,7 +6,7 @@ ghost use Rattle.code_store.specs.Order.{Follows};
 ghost use Rattle.jv_values.specs.Values.{value_of, places_of};
 ghost use Rattle.local_runs.specs.Places.{step_of};
 ghost use Rattle.local_runs.specs.Runs.{NeverWrong};
-ghost use Rattle.thread_frames.specs.Frames.{frame_at, change_at, newest, change_newest, shown, words_in, AreWithin, fresh_frame, with_pc, with_code, with_local_set, with_pushed, with_popped, with_top, with_word};
+ghost use Rattle.thread_frames.specs.Frames.{frame_at, change_at, newest, change_newest, shown, words_in, AreWithin, fresh_frame, with_pc, with_code, with_local_set, with_pushed, with_popped, with_empty_stack, with_top, with_word};
 ghost use Rattle.thread_frames.specs.Machine.{operands_of, value_on_top, words_frame, RunsNewest};
 ghost use Rattle.frame_stacks.specs.Limits.{most_starts};
 ghost use Rattle.frame_stacks.specs.Threads.{IsOf, HasRoom, RunsThread, change_thread, new_thread, with_frames, with_starts, with_mark, finished};
@@ -198,6 +198,15 @@ impl Stacks {
             (with_frames (change_newest (with_popped (places_of result)))) self.old }
     {
         self.threads[t.0 as usize].frames.pop_value()
+    }
+
+    /// Removes all operands of the newest frame of a thread.
+    pub fn clear_stack(&mut self, t: ThreadNo)
+        requires { IsOf self.old t.0 (λ thread. 0 < length thread.frames) }
+        ensures { self.new
+            ≡ change_thread t.0 (with_frames (change_newest with_empty_stack)) self.old }
+    {
+        self.threads[t.0 as usize].frames.clear_stack();
     }
 
     /// Replaces the place, the locals and the operands of the newest frame.

@@ -46,6 +46,32 @@ fn compared(a: i64, b: i64) -> Value {
     stack[0]
 }
 
+/// The words that `dup_x2` leaves of three.
+#[tactic(auto, unfolding(machine_model::specs::LocalStep::local_step_of, jv_values::specs::Values::operands_in))]
+fn dup_x2(c: Value, b: Value, a: Value) -> [Value; 4] {
+    let insn = Insn {
+        pc: 0,
+        next: 1,
+        instruction: Instruction::Stack(StackForm::DuplicateX2),
+    };
+    let mut stack = [c, b, a, Value::Null];
+    let _next = local_step(&insn, &[], &mut [], &mut stack, 3);
+    stack
+}
+
+/// The words that `dup2_x1` leaves of three.
+#[tactic(auto, unfolding(machine_model::specs::LocalStep::local_step_of, jv_values::specs::Values::operands_in))]
+fn dup2_x1(c: Value, b: Value, a: Value) -> [Value; 5] {
+    let insn = Insn {
+        pc: 0,
+        next: 1,
+        instruction: Instruction::Stack(StackForm::DuplicateTwoX1),
+    };
+    let mut stack = [c, b, a, Value::Null, Value::Null];
+    let _next = local_step(&insn, &[], &mut [], &mut stack, 3);
+    stack
+}
+
 /// The words that `dup2_x2` leaves of four.
 #[tactic(auto, unfolding(machine_model::specs::LocalStep::local_step_of, jv_values::specs::Values::operands_in))]
 fn dup2_x2(d: Value, c: Value, b: Value, a: Value) -> [Value; 6] {
@@ -210,6 +236,26 @@ fn groups(rt: HostRuntime) {
     ] {
         let [d, c, b, a] = words;
         assert_eq!(rt; dup2_x2(d, c, b, a), after);
+    }
+}
+
+#[test]
+fn words_below(rt: HostRuntime) {
+    let (one, two, three) = (Value::Int(1), Value::Int(2), Value::Int(3));
+    let (long, half) = (Value::Long(5), Value::Half);
+    for (words, after) in [
+        ([one, two, three], [three, one, two, three]),
+        ([long, half, one], [one, long, half, one]),
+    ] {
+        let [c, b, a] = words;
+        assert_eq!(rt; dup_x2(c, b, a), after);
+    }
+    for (words, after) in [
+        ([one, two, three], [two, three, one, two, three]),
+        ([one, long, half], [long, half, one, long, half]),
+    ] {
+        let [c, b, a] = words;
+        assert_eq!(rt; dup2_x1(c, b, a), after);
     }
 }
 

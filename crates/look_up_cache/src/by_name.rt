@@ -3,14 +3,31 @@
 ghost use Rattle.std.specs.Prelude.{◌≡◌, ◌+◌, ◌≤◌, Some, length, option_map};
 ghost use Rattle.jv_model.specs.ConstantPool.{const_at};
 ghost use Rattle.code_model.specs.Names.{class_name_at as class_name_in, member_of};
+ghost use Rattle.world_model.specs.Resolution.{class_with_methods};
 ghost use Rattle.world_model.specs.Supertypes.{field_order, method_order};
 ghost use Rattle.jv_types.specs.ClassData.{pool_of};
-ghost use Rattle.look_up_cache.specs.Targets.{target_of, found_in, most_steps, class_target, field_target, method_target};
+ghost use Rattle.look_up_cache.specs.Found.{found_in};
+ghost use Rattle.look_up_cache.specs.Targets.{named_target, most_steps, class_target, field_target, method_target};
 
-use crate::resolved::Resolved;
-use class_world::{World, text_at};
-use jv_types::{Const, Steps};
+use class_world::{FieldPlace, World, text_at};
+use jv_types::{ClassNo, Const, MethodNo, Steps};
 use std::sync::ledger::Ledger;
+
+/// The class whose methods arrays have (JVMS 4.10.1.2), as units of UTF-16.
+const OBJECT: [u16; 16] = [
+    0x6a, 0x61, 0x76, 0x61, 0x2f, 0x6c, 0x61, 0x6e, 0x67, 0x2f, 0x4f, 0x62, 0x6a, 0x65, 0x63, 0x74,
+];
+
+/// With this unit the name of an array type begins (JVMS 4.3.2).
+const ARRAY_UNIT: u16 = 0x5b;
+
+/// A class, a field or a method of a world.
+#[derive(Clone, Copy)]
+pub enum Resolved {
+    Class(ClassNo),
+    Field(FieldPlace),
+    Method(MethodNo),
+}
 
 /// The name of a member, as a constant pool has it.
 #[derive(Clone, Copy)]
@@ -82,6 +99,16 @@ fn look_up_field<L: Ledger>(
     Some(Resolved::Field(place))
 }
 
+/// The class in which the methods of a type are looked for, by its name.
+fn class_with_methods(name: &[u16]) -> &[u16]
+    ensures { result.now ≡ class_with_methods name.now }
+{
+    match name {
+        [ARRAY_UNIT, ..] => &OBJECT,
+        _ => name,
+    }
+}
+
 /// The method of a name.
 fn look_up_method<L: Ledger>(
     world: &World,
@@ -95,14 +122,14 @@ fn look_up_method<L: Ledger>(
           descriptor = member.now.descriptor.now;
         })) }
     ensures steps { steps.new
-        ≤ steps.old + length (method_order world.now member.now.class.now) }
+        ≤ steps.old + length (method_order world.now (class_with_methods member.now.class.now)) }
 {
-    let class = world.class_named(member.class)?;
+    let class = world.class_named(class_with_methods(member.class))?;
     let method = world.method_named(class, member.name, member.descriptor, steps)?;
     Some(Resolved::Method(method))
 }
 
-/// What the entry at an index leads to, where its name leads anywhere.
+/// The class, the field or the method that the entry at an index names, where it's there.
 pub fn look_up<L: Ledger>(
     world: &World,
     pool: &[Const],
@@ -110,7 +137,7 @@ pub fn look_up<L: Ledger>(
     steps: &mut Steps<L>,
 ) -> Option<Resolved>
     ensures found { option_map (found_in world.now) result
-        ≡ option_map Some (target_of world.now (pool_of pool.now) index) }
+        ≡ option_map Some (named_target world.now (pool_of pool.now) index) }
     ensures steps { steps.new ≤ steps.old + most_steps world.now (pool_of pool.now) index }
 {
     match pool.get(usize::from(index)) {

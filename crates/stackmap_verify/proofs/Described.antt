@@ -1,5 +1,5 @@
 -- A method that was read, as an environment of the definitions.
-use Rattle.std.proofs.Common.{◌≡◌, ℕ, true, List, Option, Some, None, map, get_or, option_map, option_and_then, ap, sym, ◌∙◌, refl}
+use Rattle.std.proofs.Common.{◌≡◌, Bool, length, ℕ, true, List, Option, Some, None, map, get_or, option_map, option_and_then, ap, sym, ◌∙◌, refl}
 use Rattle.std.specs.List.{All}
 use Rattle.std.specs.Option.{IfSome}
 use Rattle.jv_model.specs.ClassData.{Const}
@@ -13,8 +13,9 @@ use Rattle.code_model.specs.Names.{named, named_placed, named_frame}
 use Rattle.link_model.specs.UseFaults.{is_class_where, are_types_there}
 use Rattle.link_model.specs.WorldOf.{class_of}
 use Rattle.typing_model.specs.VerificationType.{type_of as model_type_of}
-use Rattle.typing_model.specs.Environment.{Environment}
+use Rattle.typing_model.specs.Environment.{Environment, environment_of}
 use Rattle.typing_model.specs.FailingPlace.{failing_place, first_place, visits}
+use Rattle.typing_model.specs.WellTyped.{IsTypingTo, IsTyping}
 use Rattle.linked_laws.specs.Code.{InstructionIsLinked, FrameIsLinked}
 use Rattle.jv_types.specs.ClassData.{pool_of}
 use Rattle.jv_types.specs.Code.{body_of, frame_of}
@@ -26,6 +27,7 @@ use Rattle.jv_types.specs.declared.loaded.Loaded.{Loaded}
 use Rattle.class_world.specs.World.{number_of, name_at, IsInfo}
 use Rattle.class_world.specs.declared.class_info.ClassInfo.{ClassInfo}
 use Rattle.type_rules.specs.Types.{IsKnown}
+use Rattle.type_rules.specs.Frames.{Types}
 use Rattle.instruction_types.specs.declared.environment.Environment as numbered
 use Rattle.instruction_types.specs.Environment.{IsEnvironment}
 use Rattle.instruction_types.proofs.Found.{found-name, found-known}
@@ -35,6 +37,9 @@ use Rattle.map_frames.specs.Methods.{IsMethodType}
 use Rattle.map_frames.specs.Linked.{HasLinkedEntries}
 use Rattle.map_frames.proofs.LinkedFrames.{linked-entries}
 use Rattle.stackmap_verify.specs.Codes.{IsLinkedCode, method_in}
+use Rattle.stackmap_verify.specs.Passed.{frames_of, Keeps, Passes, PassesAs}
+use Rattle.stackmap_verify.specs.declared.pass.Passed.{Passed}
+use Rattle.stackmap_verify.specs.declared.pass.Passed.TheVariants.{Typed, Breaks}
 use Rattle.stackmap_verify.specs.Environments.{Describes}
 use Rattle.stackmap_verify.proofs.Sound.{all_of_mapped}
 
@@ -113,9 +118,23 @@ module _ (world : World) (class : ClassInfo) (loaded : Loaded) (member : Member)
       body = named (pool_of loaded.file.pool.items) (units_at (pool_of loaded.file.pool.items) member.descriptor) (body_of body);
     }
 
+    is_env : environment_of world (class_of (loaded_of loaded)) (method_in loaded member (Some body)) ≡ Some env
+    is_env = rw spelled.is_type refl
+
     -- the method fails where the pass over its code does
-    pub fails_in : failing_place world (class_of (loaded_of loaded)) (method_in loaded member (Some body)) ≡ first_place env (visits env)
+    fails_in : failing_place world (class_of (loaded_of loaded)) (method_in loaded member (Some body)) ≡ first_place env (visits env)
     fails_in = rw spelled.is_type refl
+
+    -- what a pass says of its code it says of the method
+    pub passes_as : (wanted : Bool) (passed : Passed) → Passes world env wanted passed
+        → PassesAs world (class_of (loaded_of loaded)) (method_in loaded member (Some body)) wanted passed
+    passes_as wanted (Typed kept) told = (fails_in ∙ told.0, by kept told.1)
+      where
+        by : (k : Option (List Types)) → Keeps wanted (λ frames. IsTypingTo env (length env.body.instructions) (frames_of world frames)) k
+            → Keeps wanted (λ frames. IsTyping world (class_of (loaded_of loaded)) (method_in loaded member (Some body)) (frames_of world frames)) k
+        by None none = none
+        by (Some frames) typing = record { environment = env; is_environment = is_env; typing = typing }
+    passes_as wanted (Breaks place) told = fails_in ∙ told
 
     -- what describes it by numbers is this environment
     pub described : (here : numbered.Environment)

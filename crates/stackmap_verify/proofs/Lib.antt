@@ -10,3 +10,4 @@ pub mod Members
 pub mod Passing
 pub mod Switches
 pub mod Covering
+pub mod MethodFrames

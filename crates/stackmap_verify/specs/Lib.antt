@@ -9,3 +9,5 @@ pub mod Codes
 -- its instructions
 pub mod Cover
 pub mod Visits
+pub mod Passed
+pub mod Typings

@@ -1,4 +1,4 @@
-//! Why a world isn't verified.
+//! Why a world or a method isn't verified.
 
 ghost use Rattle.std.specs.Prelude.{◌≡◌};
 ghost use Rattle.stackmap_verify.specs.declared.error.VerifyError.TheVariants as errors;

@@ -1,19 +1,21 @@
 //! The methods of classes.
 
-ghost use Rattle.std.specs.Prelude.{◌≡◌, ◌<◌, Some, length, option_and_then, option_map, slice_get, IfOk};
+ghost use Rattle.std.specs.Prelude.{◌≡◌, ◌<◌, [], is_some, Some, length, option_and_then, option_map, slice_get, IfOk, IfSome};
 ghost use Rattle.world_model.specs.World.{Class, Method as ModelMethod};
 ghost use Rattle.link_model.specs.WorldOf.{class_of};
-ghost use Rattle.typing_model.specs.FailingPlace.{method_failure};
 ghost use Rattle.linked_laws.specs.Worlds.{IsLinkedWorld};
 ghost use Rattle.verifier_laws.proofs.Failures.{class_failure};
 ghost use Rattle.jv_types.specs.Loaded.{loaded_of};
 ghost use Rattle.class_world.specs.World.{IsInfo};
 ghost use Rattle.stackmap_verify.specs.Codes.{HoldsClass, told_of};
 ghost use Rattle.stackmap_verify.specs.Outcome.{Answers, Tells};
+ghost use Rattle.stackmap_verify.specs.Passed.{PassesMethod};
 
-use crate::code::failing_place;
+use crate::code::{Coded, pass_code};
 use crate::error::VerifyError;
 use crate::failure::Place;
+use crate::kept::Kept;
+use crate::pass::Passed;
 use class_world::{ClassInfo, Origin, World, text_at};
 use jv_types::{ClassNo, CodeBody, List, Loaded, Member, NoMemory, Steps};
 use std::alloc::Global;
@@ -50,29 +52,38 @@ fn code_at(loaded: &Loaded, index: u32) -> Option<&CodeBody>
     }
 }
 
-/// Verifies a method of a class that was read.
-fn verify_member<L: Ledger>(
+/// Goes over a method of a class that was read, and keeps the frames of its instructions where they
+/// are wanted.
+pub fn pass_method<L: Ledger>(
     alloc: Global,
     world: &World,
     class: &ClassInfo,
     loaded: &Loaded,
     index: u32,
+    kept: Kept,
     steps: &mut Steps<L>,
-) -> Result<(), VerifyError>
+) -> Result<Kept, VerifyError>
     requires world { IsLinkedWorld world.now }
     requires class { HoldsClass world.now loaded.now class.now }
     requires index { index < length loaded.now.file.methods.items }
+    requires kept { IfSome kept (λ frames. frames ≡ []) }
     ensures { (m : ModelMethod)
         × (slice_get (class_of (loaded_of loaded.now)).methods index ≡ Some m)
-        × Answers (method_failure world.now (class_of (loaded_of loaded.now)) m) result }
+        × PassesMethod world.now (class_of (loaded_of loaded.now)) m (is_some kept) result }
 {
     let member = loaded.file.methods.get(index);
     let Some(body) = code_at(loaded, index) else {
-        return Ok(());
+        return Ok(kept);
     };
-    match failing_place(alloc, world, class, loaded, member, body, steps)? {
-        Some(place) => Err(not_verified(alloc, class, loaded, member, place)?),
-        None => Ok(()),
+    let coded = Coded {
+        class,
+        loaded,
+        member,
+        body,
+    };
+    match pass_code(alloc, world, &coded, kept, steps)? {
+        Passed::Typed(kept) => Ok(kept),
+        Passed::Breaks(place) => Err(not_verified(alloc, class, loaded, member, place)?),
     }
 }
 
@@ -89,7 +100,7 @@ fn verify_members<L: Ledger>(
     ensures { Answers (class_failure world.now (class_of (loaded_of loaded.now))) result }
 {
     for index in 0..loaded.file.methods.len() {
-        verify_member(alloc, world, class, loaded, index, steps)?;
+        pass_method(alloc, world, class, loaded, index, Kept::nothing(), steps)?;
     }
     Ok(())
 }

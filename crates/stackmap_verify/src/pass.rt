@@ -1,21 +1,30 @@
 //! The pass over the code of a method.
 
-ghost use Rattle.std.specs.Prelude.{◌≡◌, option_map, IfOk};
+ghost use Rattle.std.specs.Prelude.{◌≡◌, [], is_some, IfOk, IfSome};
 ghost use Rattle.typing_model.specs.Environment.{Environment as ModelEnvironment};
 ghost use Rattle.typing_model.specs.DescriptorFrame.{descriptor_frame};
-ghost use Rattle.typing_model.specs.FailingPlace.{first_place as model_first_place, visits};
 ghost use Rattle.type_rules.specs.Frames.{frame_of, IsKnownFrame};
 ghost use Rattle.stackmap_verify.specs.Methods.{IsMethod, IsSound};
-ghost use Rattle.stackmap_verify.specs.Visits.{place_of};
+ghost use Rattle.stackmap_verify.specs.Passed.{Passes};
 
 use crate::cover::Cover;
 use crate::failure::{Failure, Place};
+use crate::kept::Kept;
 use crate::method::Method;
-use crate::visit::visit;
+use crate::visit::{Trail, visit};
 use jv_types::{NoMemory, Steps};
 use std::alloc::Global;
 use std::sync::ledger::Ledger;
 use type_rules::TypeFrame;
+
+/// What comes of a pass over the code of a method.
+#[derive(Drop)]
+pub enum Passed {
+    /// No instruction breaks a rule. Where frames are wanted, these are those of all instructions.
+    Typed(Kept),
+    /// The first one that does, and the first rule that it breaks.
+    Breaks(Place),
+}
 
 /// The place of an instruction where the pass goes no further.
 fn place_at(pc: u32, failure: Failure) -> Result<Place, NoMemory>
@@ -27,29 +36,33 @@ fn place_at(pc: u32, failure: Failure) -> Result<Place, NoMemory>
     }
 }
 
-/// The first instruction of a method that breaks a rule, and the first rule that it breaks.
-pub fn first_place<L: Ledger>(
+/// Goes over the instructions of a method from the frame that it begins with, and keeps their
+/// frames where they are wanted.
+pub fn pass_over<L: Ledger>(
     alloc: Global,
     method: &Method,
     start: TypeFrame,
+    kept: Kept,
     steps: &mut Steps<L>,
-) -> Result<Option<Place>, NoMemory>
+) -> Result<Passed, NoMemory>
     requires method { IsSound method.now }
     requires start { IsKnownFrame method.now.world.now start }
-    ensures { IfOk result (λ place. (e : ModelEnvironment) → IsMethod method.now e
+    requires kept { IfSome kept (λ frames. frames ≡ []) }
+    ensures { IfOk result (λ passed. (e : ModelEnvironment) → IsMethod method.now e
         → descriptor_frame e ≡ frame_of method.now.world.now start
-        → option_map place_of place ≡ model_first_place e (visits e)) }
+        → Passes method.now.world.now e (is_some kept) passed) }
 {
     let instructions = &method.code.body.instructions;
-    let mut cover = Cover::of(alloc, method.code.body.handlers.as_slice())?;
+    let cover = Cover::of(alloc, method.code.body.handlers.as_slice())?;
+    let mut trail = Trail { cover, kept };
     let mut flow = Some(start);
     for number in 0..instructions.len() {
         let insn = instructions.get(number);
         let is_last = number + 1 == instructions.len();
-        match visit(alloc, method, &mut cover, insn, is_last, flow, steps) {
+        match visit(alloc, method, &mut trail, insn, is_last, flow, steps) {
             Ok(next) => flow = next,
-            Err(failure) => return Ok(Some(place_at(insn.pc, failure)?)),
+            Err(failure) => return Ok(Passed::Breaks(place_at(insn.pc, failure)?)),
         }
     }
-    Ok(None)
+    Ok(Passed::Typed(trail.kept))
 }

@@ -1,6 +1,6 @@
 //! The rules at an instruction, in their order (JVMS 4.10.1.6).
 
-ghost use Rattle.std.specs.Prelude.{◌≡◌, ◌==◌, ◌&&◌, ℕ, not, if◌then◌else◌, IfOk, IfSome};
+ghost use Rattle.std.specs.Prelude.{◌≡◌, ◌==◌, ◌&&◌, ℕ, ◌++◌, ◌∷◌, [], not, if◌then◌else◌, option_map, IfOk, IfSome, OnOk};
 ghost use Rattle.std.specs.List.Sorted.{IsPermutation};
 ghost use Rattle.jv_model.specs.Operand.{Operand};
 ghost use Rattle.jv_model.specs.Flow.{goes_on as model_goes_on};
@@ -13,7 +13,7 @@ ghost use Rattle.linked_laws.specs.Code.{InstructionIsLinked};
 ghost use Rattle.jv_types.specs.ClassData.{pool_of};
 ghost use Rattle.jv_types.specs.Instruction.{instruction_of};
 ghost use Rattle.jv_types.specs.Instructions.{placed_of};
-ghost use Rattle.type_rules.specs.Frames.{frame_of, IsKnownFrame};
+ghost use Rattle.type_rules.specs.Frames.{Types, frame_of, IsKnownFrame};
 ghost use Rattle.stackmap_verify.specs.Methods.{IsMethod, IsSound};
 ghost use Rattle.stackmap_verify.specs.Visits.{flow_of, HasFrame, Enters, StepsTo, Leaves};
 
@@ -21,6 +21,7 @@ use crate::cover::Cover;
 use crate::failure::Failure;
 use crate::flow::{goes_on, goes_to_targets};
 use crate::handlers::one_misfits;
+use crate::kept::Kept;
 use crate::maps::map_frame_at;
 use crate::method::Method;
 use instruction_step::type_step;
@@ -163,18 +164,26 @@ pub fn leave<L: Ledger>(
     Ok(flow_after(insn, after))
 }
 
+/// What a pass takes along: the handlers, and the frames so far.
+#[derive(Drop)]
+pub struct Trail {
+    pub cover: Cover,
+    pub kept: Kept,
+}
+
 /// Visits an instruction: the frame with which flow goes on, where no rule fails.
 pub fn visit<L: Ledger>(
     alloc: Global,
     method: &Method,
-    cover: &mut Cover,
+    trail: &mut Trail,
     insn: &Insn,
     is_last: bool,
     flow: Option<TypeFrame>,
     steps: &mut Steps<L>,
 ) -> Result<Option<TypeFrame>, Failure>
     requires method { IsSound method.now }
-    requires cover { IsPermutation method.now.code.now.body.now.handlers.items cover.old.rows }
+    requires cover { IsPermutation method.now.code.now.body.now.handlers.items
+        trail.old.cover.rows }
     requires linked { InstructionIsLinked method.now.world.now
         (named_placed (pool_of method.now.code.now.pool.now) (placed_of insn.now)).instruction }
     requires flow { IfSome flow (IsKnownFrame method.now.world.now) }
@@ -182,9 +191,16 @@ pub fn visit<L: Ledger>(
         → v.placed ≡ named_placed (pool_of method.now.code.now.pool.now) (placed_of insn.now)
         → v.flow ≡ flow_of method.now.world.now flow → v.is_last ≡ is_last
         → Leaves method.now.world.now e v result }
-    ensures rows { cover.new.rows ≡ cover.old.rows }
+    ensures kept { OnOk result ((frame : Types)
+        × (trail.new.kept ≡ option_map (λ frames. frames ++ frame ∷ []) trail.old.kept)
+        × ((e : ModelEnvironment) → IsMethod method.now e → (v : ModelVisit)
+        → v.placed ≡ named_placed (pool_of method.now.code.now.pool.now) (placed_of insn.now)
+        → v.flow ≡ flow_of method.now.world.now flow
+        → model_frame_of e v ≡ Some (frame_of method.now.world.now frame))) }
+    ensures rows { trail.new.cover.rows ≡ trail.old.cover.rows }
     ensures known { IfOk result (λ flow. IfSome flow (IsKnownFrame method.now.world.now)) }
 {
     let frame = entry_frame(alloc, method, insn.pc, flow, steps)?;
-    leave(alloc, method, cover, insn, is_last, frame, steps)
+    trail.kept.keep(alloc, &frame)?;
+    leave(alloc, method, &mut trail.cover, insn, is_last, frame, steps)
 }

@@ -110,6 +110,9 @@ abbrev pub with_popped : ℕ → FrameState → FrameState
 with_popped count frame =
     record frame { stack = take (length frame.stack - count) frame.stack }
 
+abbrev pub with_empty_stack : FrameState → FrameState
+with_empty_stack frame = record frame { stack = [] }
+
 abbrev pub with_top : ℕ → List Value → List Value → FrameState → FrameState
 with_top pc locals stack frame = record frame { pc = pc; locals = locals; stack = stack }
 

@@ -3,7 +3,7 @@
 ghost use Rattle.std.specs.Prelude.{◌≡◌, ◌+◌, ◌-◌, ◌<◌, ◌≤◌, ◌∷◌, [], Some, IsSome, IsSomeAnd, IfOk, length, drop, reverse, option_map, slice_get, slice_set};
 ghost use Rattle.jv_model.specs.Limits.{most_frames, most_stack_words};
 ghost use Rattle.jv_values.specs.Values.{value_of, values_of, places_of};
-ghost use Rattle.thread_frames.specs.Frames.{frame_at, change_at, newest, change_newest, shown, words_in, AreWithin, fresh_frame, with_pc, with_code, with_local_set, with_pushed, with_popped, with_top, with_word};
+ghost use Rattle.thread_frames.specs.Frames.{frame_at, change_at, newest, change_newest, shown, words_in, AreWithin, fresh_frame, with_pc, with_code, with_local_set, with_pushed, with_popped, with_empty_stack, with_top, with_word};
 ghost use Rattle.code_store.specs.Order.{Follows};
 ghost use Rattle.local_runs.specs.Places.{step_of};
 ghost use Rattle.local_runs.specs.Runs.{NeverWrong};
@@ -252,6 +252,15 @@ impl ThreadFrames {
         let depth = row.depth - places(value);
         set_newest_row(&mut self.rows, Row { depth, ..row });
         value
+    }
+
+    /// Removes all operands of the newest frame.
+    pub fn clear_stack(&mut self)
+        requires { 0 < length self.old }
+        ensures { self.new ≡ change_newest with_empty_stack self.old }
+    {
+        let row = newest_row(&self.rows);
+        set_newest_row(&mut self.rows, Row { depth: 0, ..row });
     }
 
     /// Replaces the place, the locals and the operands of the newest frame.

@@ -276,10 +276,59 @@ fn show_older<S: Sink>(rt: &HostRuntime, alloc: Global, shown: &mut S) -> Result
     Ok(())
 }
 
+/// The files of programs that are linked and verified, or refused there: what runs, what is for
+/// later, and each refusal.
+const LINKED: [&str; 15] = [
+    "constructor",
+    "handler",
+    "branch",
+    "two",
+    "update",
+    "twice",
+    "cycle",
+    "absent",
+    "final",
+    "no-main",
+    "double",
+    "native",
+    "kept-name",
+    "no-frame",
+    "empty-stack",
+];
+
+/// Shows what is told of them.
+fn show_linked<F: Files, S: Sink>(
+    disk: &mut F,
+    alloc: Global,
+    shown: &mut S,
+) -> Result<(), Failed> {
+    for file in LINKED {
+        for mode in ["run", "check"] {
+            let mut files = copy_files(disk, alloc, &[file], &[])?;
+            let mut out = sink(alloc, 1, &[])?;
+            let mut report = sink(alloc, 1, &[])?;
+            let mut trace = sink(alloc, 1, &[])?;
+            let words = [mode, file];
+            let reply = jvolve_alone(alloc, &words, &mut files, &mut out, &mut report, &mut trace);
+            let name = format!(in alloc; "{mode} {file}")?;
+            show(
+                alloc,
+                shown,
+                name.as_bytes(),
+                &reply,
+                out.bytes(),
+                trace.bytes(),
+            )?;
+        }
+    }
+    Ok(())
+}
+
 fn show_all(rt: &HostRuntime) -> Result<(), Failed> {
     let alloc = rt.alloc();
     let mut shown = StdSink::new(rt);
     show_cases(&mut DiskFiles::new(rt), alloc, &mut shown)?;
+    show_linked(&mut DiskFiles::new(rt), alloc, &mut shown)?;
     show_longest(alloc, &mut shown)?;
     show_older(rt, alloc, &mut shown)
 }

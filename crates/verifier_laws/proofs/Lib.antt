@@ -2,3 +2,4 @@ pub mod Firsts
 pub mod Failures
 pub mod Visits
 pub mod Rules
+pub mod Typings

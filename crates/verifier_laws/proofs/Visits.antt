@@ -31,9 +31,6 @@ drop_get (x ∷ xs) n = rw add-one (by xs n)
 
 module _ (e : Environment) (flow : Option TypeFrame) (n : ℕ) where
   module _ (p : Placed Operand) (at : slice_get e.body.instructions n ≡ Some p) where
-    here : Visit
-    here = visit_at flow e.body.instructions n p
-
     step : place_from e flow n
         ≡ first_place e (visits_from e flow (p ∷ drop (n + 1) e.body.instructions))
     step =
@@ -42,21 +39,20 @@ module _ (e : Environment) (flow : Option TypeFrame) (n : ℕ) where
         ∙ ap (λ q. first_place e (visits_from e flow (q ∷ drop (n + 1) e.body.instructions)))
         (get_or_from_slice_get e.body.instructions n p p at)
 
-    as_here : record { placed = p; flow = flow; is_last = is_none (slice_get (drop (n + 1) e.body.instructions) 0) }
-        ≡ here
-    unfolding here
+    pub as_here : record { placed = p; flow = flow; is_last = is_none (slice_get (drop (n + 1) e.body.instructions) 0) }
+        ≡ visit_at flow e.body.instructions n p
     as_here = λ i. record { placed = p; flow = flow; is_last = is_none (drop_get e.body.instructions n i) }
 
     -- it fails there
     pub fails_here : (rule : Rule) → first_failing e (visit_at flow e.body.instructions n p) ≡ Some rule
         → place_from e flow n ≡ Some (p.pc, rule)
-    unfolding here first_place visits_from
+    unfolding first_place visits_from
     fails_here rule fails = step ∙ rw (as_here, fails) refl
 
     -- it doesn't, and flow goes on
     pub goes_further : first_failing e (visit_at flow e.body.instructions n p) ≡ None
         → place_from e flow n ≡ place_from e (flow_behind e (visit_at flow e.body.instructions n p)) (n + 1)
-    unfolding here first_place visits_from
+    unfolding first_place visits_from
     goes_further none = step ∙ rw (as_here, none) refl
 
     -- the last one

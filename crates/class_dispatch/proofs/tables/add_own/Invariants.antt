@@ -7,5 +7,5 @@ use Rattle.class_dispatch.proofs.tables.add_own.Given as goal
 -- the table has the methods so far
 abbrev pub invariant-loop-index : goal.invariant-loop-index
 invariant-loop-index l =
-    (slot : ℕ) → option_or (selected_in l.table (key_of slot)) (own_in l.slots l.class l.index (drop l.index l.row.items) slot)
-    ≡ option_or (selected_in l.fn.table (key_of slot)) (own_in l.slots l.class 0 l.row.items slot)
+    (signature : ℕ) → option_or (selected_in l.table (key_of signature)) (own_in l.signatures l.class l.index (drop l.index l.row.items) signature)
+    ≡ option_or (selected_in l.fn.table (key_of signature)) (own_in l.signatures l.class 0 l.row.items signature)

@@ -7,5 +7,5 @@ use Rattle.class_dispatch.proofs.tables.table_of.Given as goal
 -- the table has the methods of the classes so far
 abbrev pub invariant-loop-index : goal.invariant-loop-index
 invariant-loop-index l =
-    (slot : ℕ) → option_or (selected_in l.table (key_of slot)) (chain_in l.slots l.rows.items (drop l.index l.chain) slot)
-    ≡ chain_in l.slots l.rows.items l.chain slot
+    (signature : ℕ) → option_or (selected_in l.table (key_of signature)) (chain_in l.signatures l.rows.items (drop l.index l.chain) signature)
+    ≡ chain_in l.signatures l.rows.items l.chain signature

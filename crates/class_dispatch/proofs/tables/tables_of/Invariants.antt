@@ -6,6 +6,6 @@ use Rattle.class_dispatch.proofs.tables.tables_of.Given as goal
 -- the tables so far, and those of the chains that are left
 abbrev pub invariant-loop-chain : goal.invariant-loop-chain
 invariant-loop-chain l =
-    (slot : ℕ) → map (λ t. selected_in t (key_of slot)) l.tables.items
-    ++ map (λ chain. chain_in l.slots l.rows.items chain.items slot) (drop l.chain-index l.chains)
-    ≡ map (λ chain. chain_in l.slots l.rows.items chain.items slot) l.chains
+    (signature : ℕ) → map (λ t. selected_in t (key_of signature)) l.tables.items
+    ++ map (λ chain. chain_in l.signatures l.rows.items chain.items signature) (drop l.chain-index l.chains)
+    ≡ map (λ chain. chain_in l.signatures l.rows.items chain.items signature) l.chains

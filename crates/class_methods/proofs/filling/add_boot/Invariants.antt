@@ -6,4 +6,4 @@ use Rattle.class_methods.proofs.filling.add_boot.Given as goal
 -- those of the methods so far are added
 abbrev pub invariant-loop-method : goal.invariant-loop-method
 invariant-loop-method l =
-    AddsMethods l.class l.fn.filling l.filling l.fn.row.items l.row.items (map boot_method_pair (take l.method-index l.methods))
+    AddsMethods l.fn.filling l.filling l.fn.row.items l.row.items (map boot_method_pair (take l.method-index l.methods))

@@ -5,6 +5,6 @@ use Rattle.class_methods.proofs.filling.add_class.Goals as goal
 
 pub returns : goal.returns
 returns c =
-    adds_class c.args.class _ _ _ _ _ _ _ c.new-row.ensures
+    adds_class _ _ _ _ _ _ _ c.new-row.ensures
     (ap (map (λ row. row.items)) c.in_ok-push.ensures.ok ∙ map-append (λ row. row.items) c.args.rows.now.items (c.add_methods.new.row ∷ []))
     c.in_ok-add_methods.ensures

@@ -1,5 +1,10 @@
-use Rattle.look_up_cache.proofs.KeptLemmas.{kept_already}
+use Rattle.look_up_cache.proofs.Kept.{is_there, place_there, kept_already}
 use Rattle.look_up_cache.proofs.cache.Cache.resolve.Goals as goal
 
+pub kept-requires : goal.kept-requires
+kept-requires g c =
+    place_there c.args.world.now c.args.self.now.places c.args.method.class c.args.index c.requires.truth.places
+    (is_there c.args.world.now c.args.method.class c.args.index c.requires.there)
+
 pub returns-in-Some-clause-keeps : goal.returns-in-Some-clause-keeps
-returns-in-Some-clause-keeps g c = kept_already c.args.self.now c.args.code c.args.index c.in-Some.resolved c.in-Some.ensures
+returns-in-Some-clause-keeps g c = kept_already c.args.self.now c.args.method.class c.args.index c.in-Some.slot c.in-Some.ensures

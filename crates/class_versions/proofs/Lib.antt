@@ -1,0 +1,4 @@
+pub mod Counting
+pub mod Selecting
+pub mod Keeping
+pub mod Meaning

@@ -1,0 +1,2 @@
+-- what entering and leaving do with monitors and with their words
+mod Entering

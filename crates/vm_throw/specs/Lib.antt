@@ -1,0 +1,2 @@
+-- rows of exception tables, and the handler in the code of a method
+pub mod Handlers
