@@ -5,17 +5,15 @@ use Rattle.std.proofs.lemmas.List.Folds.{flat_map-map}
 use Rattle.jv_model.specs.ClassData as class_data
 use Rattle.jv_model.specs.ClassData.{Const}
 use Rattle.jv_model.specs.Code.{Placed}
-use Rattle.link_model.specs.Uses.{Used, used, as_superclass, as_interface, as_field_descriptor, as_method_descriptor, instruction_uses, handler_uses, map_type_uses, frame_uses, code_uses, uses_of}
+use Rattle.link_model.specs.Uses.{Used, used, as_superclass, as_interface, as_field_descriptor, as_method_descriptor, instruction_uses, handler_uses, frame_uses, code_uses, uses_of}
 use Rattle.jv_types.specs.ClassData.{member_of, pool_of}
-use Rattle.jv_types.specs.Code.{handler_of, map_type_of, frame_of, body_of}
+use Rattle.jv_types.specs.Code.{handler_of, body_of}
 use Rattle.jv_types.specs.Instruction.{instruction_of}
 use Rattle.jv_types.specs.Instructions.{placed_of}
 use Rattle.jv_types.specs.Loaded.{loaded_of, code_of}
 use Rattle.jv_types.specs.declared.class_data.Member.{Member}
 use Rattle.jv_types.specs.declared.code.CodeBody.{CodeBody}
 use Rattle.jv_types.specs.declared.code.Handler.{Handler}
-use Rattle.jv_types.specs.declared.code.MapFrame.{MapFrame}
-use Rattle.jv_types.specs.declared.code.MapType.{MapType}
 use Rattle.jv_types.specs.declared.instructions.Insn.{Insn}
 use Rattle.jv_types.specs.declared.loaded.Loaded.{Loaded}
 use Rattle.class_faults.specs.Uses.{method_uses}
@@ -51,47 +49,24 @@ module _ {L A : Type 0} (f : L → List A) (items : List L) (i : ℕ) where
 
 -- ---- what code uses
 
-pub frame_parts : (frame : MapFrame) → frame_uses (frame_of frame)
-    ≡ flat_map (λ type. map_type_uses (map_type_of type)) frame.locals.items ++ flat_map (λ type. map_type_uses (map_type_of type)) frame.stack.items
-frame_parts frame =
-    flat_map-append map_type_uses (map map_type_of frame.locals.items) (map map_type_of frame.stack.items)
-    ∙ (λ i. flat_map-map map_type_uses map_type_of frame.locals.items i ++ flat_map-map map_type_uses map_type_of frame.stack.items i)
-
-pub frame_added : (frame : MapFrame) (locals stack : List MapType) (before between after : List Used)
-    → locals ≡ frame.locals.items → stack ≡ frame.stack.items
-    → between ≡ before ++ flat_map (λ type. map_type_uses (map_type_of type)) locals
-    → after ≡ between ++ flat_map (λ type. map_type_uses (map_type_of type)) stack
-    → after ≡ before ++ frame_uses (frame_of frame)
-frame_added frame locals stack before between after is_locals is_stack first second =
-    let one = flat_map (λ type. map_type_uses (map_type_of type)) frame.locals.items in
-    let two = flat_map (λ type. map_type_uses (map_type_of type)) frame.stack.items in
-    second
-    ∙ (λ i. first i ++ flat_map (λ type. map_type_uses (map_type_of type)) (is_stack i))
-    ∙ ap (λ (l : List MapType). before ++ flat_map (λ type. map_type_uses (map_type_of type)) l ++ two) is_locals
-    ∙ append_assoc before one two
-    ∙ ap (λ (l : List Used). before ++ l) (sym (frame_parts frame))
-
 abbrev insn_uses : List Const → Insn → List Used
 insn_uses pool insn = instruction_uses pool (instruction_of insn.instruction)
 
-pub code_added : (pool : List Const) (body : CodeBody) (insns : List Insn) (handlers : List Handler) (frames : List MapFrame)
-    (before first second after : List Used) → map placed_of insns ≡ body.instructions → handlers ≡ body.handlers.items → frames ≡ body.frames.items
+pub code_added : (pool : List Const) (body : CodeBody) (insns : List Insn) (handlers : List Handler)
+    (before first second : List Used) → map placed_of insns ≡ body.instructions → handlers ≡ body.handlers.items
     → first ≡ before ++ flat_map (λ insn. instruction_uses pool (instruction_of insn.instruction)) insns
     → second ≡ first ++ flat_map (λ row. handler_uses (handler_of row)) handlers
-    → after ≡ second ++ flat_map (λ frame. frame_uses (frame_of frame)) frames
-    → after ≡ before ++ code_uses pool (body_of body)
-code_added pool body insns handlers frames before first second after is_insns is_handlers is_frames one two three =
+    → second ++ flat_map frame_uses body.frames ≡ before ++ code_uses pool (body_of body)
+code_added pool body insns handlers before first second is_insns is_handlers one two =
     let a = flat_map (λ (p : Placed ℕ). instruction_uses pool p.instruction) body.instructions in
     let b = flat_map handler_uses (map handler_of body.handlers.items) in
-    let d = flat_map frame_uses (map frame_of body.frames.items) in
+    let d = flat_map frame_uses body.frames in
     let is_a : flat_map (insn_uses pool) insns ≡ a =
     sym (flat_map-map (λ (p : Placed ℕ). instruction_uses pool p.instruction) placed_of insns)
     ∙ ap (flat_map (λ (p : Placed ℕ). instruction_uses pool p.instruction)) is_insns in
     let is_b : flat_map (λ row. handler_uses (handler_of row)) handlers ≡ b =
     ap (flat_map (λ row. handler_uses (handler_of row))) is_handlers ∙ sym (flat_map-map handler_uses handler_of body.handlers.items) in
-    let is_d : flat_map (λ frame. frame_uses (frame_of frame)) frames ≡ d =
-    ap (flat_map (λ frame. frame_uses (frame_of frame))) is_frames ∙ sym (flat_map-map frame_uses frame_of body.frames.items) in
-    three ∙ (λ i. two i ++ is_d i) ∙ (λ i. one i ++ is_b i ++ d) ∙ (λ i. before ++ is_a i ++ b ++ d)
+    (λ i. two i ++ d) ∙ (λ i. one i ++ is_b i ++ d) ∙ (λ i. before ++ is_a i ++ b ++ d)
     ∙ ap (λ (l : List Used). l ++ d) (append_assoc before a b)
     ∙ append_assoc before (a ++ b) d
 

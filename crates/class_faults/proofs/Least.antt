@@ -35,7 +35,7 @@ fold-min n m (k ∷ ns) =
     let same : min (min n m) k ≡ min n (min m k) = omega arith in
     ap (λ (a : ℕ). fold min a ns) same ∙ fold-min n (min m k) ns
 
-least-more : (n : ℕ) (ns : List ℕ) → least (n ∷ ns) ≡ lesser (Some n) (least ns)
+pub least-more : (n : ℕ) (ns : List ℕ) → least (n ∷ ns) ≡ lesser (Some n) (least ns)
 least-more n [] = refl
 least-more n (m ∷ ns) = ap Some (fold-min n m ns)
 

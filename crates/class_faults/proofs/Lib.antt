@@ -3,4 +3,5 @@ pub mod Firsts
 mod Supported
 pub mod WrongMethods
 pub mod Least
+pub mod SameLeast
 mod TextUses

@@ -1,5 +1,6 @@
 -- Which uses of the definitions the uses of entries are.
-use Rattle.std.specs.Prelude.{ℕ, List, Option, map, flat_map, option_to_list}
+use Rattle.std.specs.Prelude.{◌≡◌, ℕ, List, Option, map, flat_map, option_to_list}
+use Rattle.jv_model.specs.Partial.{least}
 use Rattle.jv_model.specs.ClassData.{Const}
 use Rattle.jv_model.specs.Code.{Body}
 use Rattle.link_model.specs.Uses as model
@@ -26,3 +27,7 @@ uses_in uses = map used_of uses
 -- what the code of a method uses, where it has code
 abbrev pub method_uses : List Const → Option (Body ℕ) → List model.Used
 method_uses pool code = flat_map (model.code_uses pool) (option_to_list code)
+
+-- the least number that one of some items has is that of others, whatever they have
+abbrev pub HaveOneLeast : {A : Type 0} → List A → List A → Type 0
+HaveOneLeast {A} some all = (has : A → List ℕ) → least (flat_map has some) ≡ least (flat_map has all)

@@ -15,10 +15,9 @@ ghost use Rattle.class_faults.specs.Descriptors.{spells, wrong_text, lesser};
 
 use crate::names::name_of;
 use crate::uses::{Use, Used, list_uses};
-use class_world::text_at;
 use descriptor_types::{ElementType, FieldType, MethodType, field_type, method_type};
 use indexmap::IndexSet;
-use jv_types::{Cause, Const, List, Loaded, NoMemory};
+use jv_types::{Cause, Const, List, Loaded, NoMemory, text_at};
 use std::alloc::Global;
 
 /// What a text has to spell.

@@ -5,7 +5,8 @@
 //! `link_model`, whose definitions say what is wrong. The contract above it is that of three passes
 //! over the classes in order: `first_reserved`, `first_wrong_descriptor` and `first_wrong_method`
 //! each give the first fault of their kind. `list_uses` lists the entries of its constant pool that
-//! a class uses, and as what, in the order of its file. Only want of memory may come instead.
+//! a class uses, and as what; the types that frames share stand there once. Only want of memory may
+//! come instead.
 #![tactic(auto)]
 
 mod descriptors;
@@ -20,7 +21,7 @@ pub use flags::{
     ACC_ABSTRACT, ACC_FINAL, ACC_INTERFACE, ACC_NATIVE, ACC_PRIVATE, ACC_STATIC, has_flag,
 };
 pub use methods::first_wrong_method;
-pub use names::{class_name_at, name_of};
+pub use names::name_of;
 pub use reserved::first_reserved;
 pub use uses::{Use, Used, list_uses};
 

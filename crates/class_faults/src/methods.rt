@@ -11,9 +11,7 @@ ghost use Rattle.jv_types.specs.Refusal.{cause_of};
 
 use crate::flags::{ACC_ABSTRACT, ACC_INTERFACE, ACC_NATIVE, ACC_STATIC, has_flag};
 use crate::names::name_of;
-use class_world::text_at;
-use jv_types::{Cause, CodeBody, List, Loaded, Member, NoMemory};
-use method_descriptors::is_text;
+use jv_types::{Cause, CodeBody, List, Loaded, Member, NoMemory, is_text, text_at};
 use std::alloc::Global;
 
 /// The code of a class's method, by its index, where it has code.

@@ -5,13 +5,15 @@ ghost use Rattle.jv_model.specs.ConstantPool.{const_at};
 ghost use Rattle.link_model.specs.Uses as model;
 ghost use Rattle.link_model.specs.Uses.{instruction_uses, handler_uses, frame_uses, map_type_uses, code_uses, uses_of, descriptor_index};
 ghost use Rattle.jv_types.specs.ClassData.{pool_of};
-ghost use Rattle.jv_types.specs.Code.{handler_of, frame_of, map_type_of, body_of};
+ghost use Rattle.jv_types.specs.Code.{handler_of, map_type_of, body_of};
+ghost use Rattle.jv_types.specs.Frames.{row_type};
 ghost use Rattle.jv_types.specs.Instruction.{instruction_of};
 ghost use Rattle.jv_types.specs.Loaded.{loaded_of, code_of};
-ghost use Rattle.class_faults.specs.Uses.{uses_in, use_of, method_uses};
+ghost use Rattle.class_faults.specs.Uses.{uses_in, use_of, method_uses, HaveOneLeast};
 
 use jv_types::{
-    CodeBody, Const, Handler, Insn, Instruction, List, Loaded, MapFrame, MapType, Member, NoMemory,
+    CodeBody, Const, Frames, Handler, Insn, Instruction, List, Loaded, MapType, Member, NoMemory,
+    TypeRow,
 };
 use std::alloc::Global;
 
@@ -175,46 +177,35 @@ fn push_map_type(uses: &mut List<Used>, map_type: &MapType) -> Result<(), NoMemo
     }
 }
 
-/// Adds the classes that some types of a frame name.
-fn push_map_types(uses: &mut List<Used>, types: &[MapType]) -> Result<(), NoMemory>
+/// Adds the classes that the types of frames name, of which those that frames share stand there
+/// once.
+fn push_types(uses: &mut List<Used>, types: &[TypeRow]) -> Result<(), NoMemory>
     ensures { OnOk result (uses_in uses.new.items ≡ uses_in uses.old.items
-        ++ flat_map (λ type. map_type_uses (map_type_of type)) types.now) }
+        ++ flat_map (λ row. map_type_uses (row_type row)) types.now) }
 {
-    for map_type in types {
-        push_map_type(uses, map_type)?;
+    for row in types {
+        push_map_type(uses, &row.map_type)?;
     }
-    Ok(())
-}
-
-/// Adds the classes that a frame names.
-fn push_frame(uses: &mut List<Used>, frame: &MapFrame) -> Result<(), NoMemory>
-    ensures { OnOk result (uses_in uses.new.items
-        ≡ uses_in uses.old.items ++ frame_uses (frame_of frame.now)) }
-{
-    push_map_types(uses, frame.locals.as_slice())?;
-    push_map_types(uses, frame.stack.as_slice())?;
     Ok(())
 }
 
 /// Adds the classes that frames name.
-fn push_frames(uses: &mut List<Used>, frames: &[MapFrame]) -> Result<(), NoMemory>
-    ensures { OnOk result (uses_in uses.new.items ≡ uses_in uses.old.items
-        ++ flat_map (λ frame. frame_uses (frame_of frame)) frames.now) }
+fn push_frames(uses: &mut List<Used>, frames: &Frames) -> Result<(), NoMemory>
+    ensures { OnOk result (HaveOneLeast (uses_in uses.new.items)
+        (uses_in uses.old.items ++ flat_map frame_uses frames.now)) }
 {
-    for frame in frames {
-        push_frame(uses, frame)?;
-    }
+    push_types(uses, frames.types())?;
     Ok(())
 }
 
 /// Adds what the code of a method uses.
 fn push_code(uses: &mut List<Used>, pool: &[Const], body: &CodeBody) -> Result<(), NoMemory>
-    ensures { OnOk result (uses_in uses.new.items ≡ uses_in uses.old.items
-        ++ code_uses (pool_of pool.now) (body_of body.now)) }
+    ensures { OnOk result (HaveOneLeast (uses_in uses.new.items) (uses_in uses.old.items
+        ++ code_uses (pool_of pool.now) (body_of body.now))) }
 {
     push_instructions(uses, pool, body.instructions.as_slice())?;
     push_handlers(uses, body.handlers.as_slice())?;
-    push_frames(uses, body.frames.as_slice())?;
+    push_frames(uses, &body.frames)?;
     Ok(())
 }
 
@@ -224,8 +215,8 @@ fn push_method(
     pool: &[Const],
     code: &Option<CodeBody>,
 ) -> Result<(), NoMemory>
-    ensures { OnOk result (uses_in uses.new.items
-        ≡ uses_in uses.old.items ++ method_uses (pool_of pool.now) (code_of code.now)) }
+    ensures { OnOk result (HaveOneLeast (uses_in uses.new.items)
+        (uses_in uses.old.items ++ method_uses (pool_of pool.now) (code_of code.now))) }
 {
     match code {
         Some(body) => push_code(uses, pool, body),
@@ -239,8 +230,8 @@ fn push_codes(
     pool: &[Const],
     codes: &[Option<CodeBody>],
 ) -> Result<(), NoMemory>
-    ensures { OnOk result (uses_in uses.new.items ≡ uses_in uses.old.items
-        ++ flat_map (λ code. method_uses (pool_of pool.now) (code_of code)) codes.now) }
+    ensures { OnOk result (HaveOneLeast (uses_in uses.new.items) (uses_in uses.old.items
+        ++ flat_map (λ code. method_uses (pool_of pool.now) (code_of code)) codes.now)) }
 {
     for code in codes {
         push_method(uses, pool, code)?;
@@ -270,9 +261,12 @@ fn push_interfaces(uses: &mut List<Used>, interfaces: &[u16]) -> Result<(), NoMe
     Ok(())
 }
 
-/// What a class uses, in the order in which its file names it. It fails only for want of memory.
+/// What a class uses. What frames share stands there once, so that the list is no longer than the
+/// file is: the least of the definitions' uses is that of these, whichever are looked at. It fails
+/// only for want of memory.
 pub fn list_uses(alloc: Global, class: &Loaded) -> Result<List<Used>, NoMemory>
-    ensures { IfOk result (λ uses. uses_in uses.items ≡ uses_of (loaded_of class.now)) }
+    ensures { IfOk result (λ uses.
+        HaveOneLeast (uses_in uses.items) (uses_of (loaded_of class.now))) }
 {
     let file = &class.file;
     let mut uses = List::new(alloc);

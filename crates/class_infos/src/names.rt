@@ -2,32 +2,20 @@
 
 ghost use Rattle.std.specs.Prelude.{◌≡◌, ◌++◌, map, bytes_eq, IfOk, OnOk};
 ghost use Rattle.std.specs.List.{IsDistinct};
-ghost use Rattle.code_model.specs.Names.{class_name_at};
 ghost use Rattle.link_model.specs.WorldOf.{name_of};
-ghost use Rattle.jv_types.specs.ClassData.{pool_of};
 ghost use Rattle.jv_types.specs.Loaded.{loaded_of};
 ghost use Rattle.class_infos.specs.Numbered.{boot_names, program_names};
 
 use class_names::Names;
-use class_world::text_at;
-use jv_types::{BootClass, Const, Loaded, NoMemory};
+use class_world::class_name_at;
+use jv_types::{BootClass, Loaded, NoMemory};
 use std::alloc::Global;
-
-/// The name of the class at an index, or the empty text where no class is there.
-pub fn name_at(pool: &[Const], index: u16) -> &[u16]
-    ensures { result.now ≡ class_name_at (pool_of pool.now) index }
-{
-    match pool.get(usize::from(index)) {
-        Some(Const::Class(name)) => text_at(pool, *name),
-        _ => &[],
-    }
-}
 
 /// The name of a class itself.
 pub fn class_name(class: &Loaded) -> &[u16]
     ensures { result.now ≡ name_of (loaded_of class.now) }
 {
-    name_at(class.file.pool.as_slice(), class.file.this_class)
+    class_name_at(class.file.pool.as_slice(), class.file.this_class)
 }
 
 /// Adds the names of boot classes, which differ from those that are there and from each other.

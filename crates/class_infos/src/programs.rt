@@ -9,9 +9,9 @@ ghost use Rattle.class_world.specs.Parts.{parts_of};
 ghost use Rattle.class_world.specs.World.{number_in};
 ghost use Rattle.class_infos.specs.Numbered.{program_parts};
 
-use crate::names::{class_name, name_at};
+use crate::names::class_name;
 use class_names::Names;
-use class_world::{ClassInfo, Origin};
+use class_world::{ClassInfo, Origin, class_name_at};
 use jv_types::{ClassNo, Const, List, Loaded, NoMemory};
 use std::alloc::Global;
 
@@ -39,7 +39,7 @@ fn interface_numbers(
 {
     let mut numbers = List::new(alloc);
     for interface in interfaces {
-        push_found(&mut numbers, names.number_of(name_at(pool, *interface)))?;
+        push_found(&mut numbers, names.number_of(class_name_at(pool, *interface)))?;
     }
     Ok(numbers)
 }
@@ -50,7 +50,7 @@ fn program_info(alloc: Global, names: &Names, class: &Loaded) -> Result<ClassInf
         parts_of info ≡ program_parts names.now (loaded_of class.now)) }
 {
     let pool = class.file.pool.as_slice();
-    let superclass = names.number_of(name_at(pool, class.file.super_class));
+    let superclass = names.number_of(class_name_at(pool, class.file.super_class));
     Ok(ClassInfo {
         name: List::from_slice(alloc, class_name(class))?,
         superclass: superclass.map(ClassNo),

@@ -1,21 +1,10 @@
 //! The name of a class.
 
 ghost use Rattle.std.specs.Prelude.{◌≡◌};
-ghost use Rattle.jv_model.specs.ConstantPool.{units_at};
 ghost use Rattle.code_model.specs.Names.{class_name_at};
-ghost use Rattle.jv_types.specs.ClassData.{class_data_of, pool_of};
+ghost use Rattle.jv_types.specs.ClassData.{class_data_of};
 
-use jv_types::{ClassData, Const, List};
-
-/// The text at an index of a constant pool, or none where no Utf8 entry is there.
-fn text_at(pool: &List<Const>, index: u16) -> &[u16]
-    ensures { result.now ≡ units_at (pool_of pool.now.items) index }
-{
-    match pool.as_slice().get(usize::from(index)) {
-        Some(Const::Utf8(text)) => text.as_slice(),
-        _ => &[],
-    }
-}
+use jv_types::{ClassData, Const, text_at};
 
 /// The name of a class (JVMS 4.1), or none where its indices name none.
 pub(crate) fn class_name(file: &ClassData) -> &[u16]
@@ -23,7 +12,7 @@ pub(crate) fn class_name(file: &ClassData) -> &[u16]
         ≡ class_name_at (class_data_of file.now).pool (class_data_of file.now).this_class }
 {
     match file.pool.as_slice().get(usize::from(file.this_class)) {
-        Some(Const::Class(name)) => text_at(&file.pool, *name),
+        Some(Const::Class(name)) => text_at(file.pool.as_slice(), *name),
         _ => &[],
     }
 }

@@ -7,9 +7,8 @@ ghost use Rattle.jv_types.specs.ClassData.{pool_of, member_of};
 ghost use Rattle.class_members.specs.Members.{cell_of, kept_of, field_kept, fields_of_boot, fields_of_loaded};
 
 use crate::constant::{constant_index, first_value};
-use crate::pool::text_at;
 use heap_face::Cell;
-use jv_types::{BootClass, BootField, Const, List, Loaded, Member, NoMemory};
+use jv_types::{BootClass, BootField, Const, List, Loaded, Member, NoMemory, text_at};
 use jv_values::Value;
 use std::alloc::Global;
 

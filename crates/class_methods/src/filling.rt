@@ -6,8 +6,8 @@ ghost use Rattle.class_world.specs.Signatures.{boot_method_pair, member_pair, me
 ghost use Rattle.class_methods.specs.Filling.{AddsClass, AddsMethods, GivesNumber};
 
 use class_names::{Names, Signature, Signatures};
-use class_world::{Origin, text_at};
-use jv_types::{BootMethod, Const, List, Member, NoMemory};
+use class_world::Origin;
+use jv_types::{BootMethod, Const, List, Member, NoMemory, text_at};
 use std::alloc::Global;
 
 /// The signatures so far.

@@ -5,8 +5,7 @@ ghost use Rattle.code_model.specs.Names.{member_at};
 ghost use Rattle.code_model.specs.OperandReading.{is_argument_count};
 ghost use Rattle.jv_types.specs.ClassData.{class_data_of, pool_of};
 
-use crate::pool::text_at;
-use jv_types::{ClassData, Const, List, NoMemory};
+use jv_types::{ClassData, Const, List, NoMemory, text_at};
 use method_descriptors::parameter_words;
 use std::alloc::Global;
 
@@ -20,7 +19,7 @@ fn descriptor_at(pool: &List<Const>, index: u16) -> &[u16]
             | Const::Methodref(_, pair)
             | Const::InterfaceMethodref(_, pair),
         ) => match pool.as_slice().get(usize::from(*pair)) {
-            Some(Const::NameAndType(_, descriptor)) => text_at(pool, *descriptor),
+            Some(Const::NameAndType(_, descriptor)) => text_at(pool.as_slice(), *descriptor),
             _ => &[],
         },
         _ => &[],

@@ -6,9 +6,8 @@ ghost use Rattle.jv_types.specs.ClassData.{class_data_of, member_of};
 ghost use Rattle.jv_types.specs.Code.{map_type_of, map_types_of};
 ghost use Rattle.class_pool.specs.ParameterTypes.{type_of_kind, types_from};
 
-use crate::pool::text_at;
-use jv_types::{ClassData, List, MapType, Member, NoMemory};
-use method_descriptors::{ParameterKind, is_text, parameter_kinds};
+use jv_types::{ClassData, List, MapType, Member, NoMemory, is_text, text_at};
+use method_descriptors::{ParameterKind, parameter_kinds};
 use std::alloc::Global;
 
 /// Whether a method has no receiver.
@@ -30,7 +29,7 @@ fn push_receiver(
     if is_static(member) {
         return Ok(());
     }
-    if is_text(text_at(&class.pool, member.name), b"<init>") {
+    if is_text(text_at(class.pool.as_slice(), member.name), b"<init>") {
         types.push(MapType::This)
     } else {
         types.push(MapType::Object(class.this_class))
@@ -74,7 +73,8 @@ pub fn first_locals(
         ≡ first_locals (class_data_of class.now) (member_of member.now)) }
 {
     let mut types = List::new(alloc);
-    let Some(kinds) = parameter_kinds(alloc, text_at(&class.pool, member.descriptor))? else {
+    let descriptor = text_at(class.pool.as_slice(), member.descriptor);
+    let Some(kinds) = parameter_kinds(alloc, descriptor)? else {
         return Ok(types);
     };
     push_receiver(&mut types, class, member)?;

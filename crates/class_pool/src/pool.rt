@@ -1,11 +1,10 @@
 //! What the indices of a constant pool name (JVMS 4.4).
 
 ghost use Rattle.std.specs.Prelude.{◌≡◌};
-ghost use Rattle.jv_model.specs.ConstantPool.{tag_of, const_at, names, names_one_of, units_at, is_named};
+ghost use Rattle.jv_model.specs.ConstantPool.{tag_of, const_at, names, names_one_of, is_named};
 ghost use Rattle.jv_types.specs.ClassData.{pool_of};
 
-use jv_types::{Const, List};
-use method_descriptors::is_text;
+use jv_types::{Const, List, is_text};
 
 /// The tag of the entry at an index, or 0 where none is there.
 fn tag_at(pool: &List<Const>, index: u16) -> u8
@@ -30,16 +29,6 @@ pub fn names_one_of(pool: &List<Const>, tags: &[u8], index: u16) -> bool
 {
     let found = tag_at(pool, index);
     tags.iter().any(|tag| found == *tag)
-}
-
-/// The text at an index, or none where no Utf8 entry is there.
-pub fn text_at(pool: &List<Const>, index: u16) -> &[u16]
-    ensures { result.now ≡ units_at (pool_of pool.now.items) index }
-{
-    match pool.as_slice().get(usize::from(index)) {
-        Some(Const::Utf8(text)) => text.as_slice(),
-        _ => &[],
-    }
 }
 
 /// Whether the entry at an index is this text, in ASCII.

@@ -10,9 +10,8 @@ ghost use Rattle.class_reader.specs.Owner.{owner_of, IsRightCount};
 
 use crate::constant_pool::{Pool, read_index};
 use crate::error::ClassError;
-use crate::text::is_text;
 use byteorder::{BigEndian, ByteOrder};
-use jv_types::{Attr, Input, List, tag};
+use jv_types::{Attr, Input, List, is_text, tag};
 use std::alloc::Global;
 
 const CONSTANT_VALUE: &[u8] = b"ConstantValue";

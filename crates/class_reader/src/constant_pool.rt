@@ -13,8 +13,7 @@ ghost use Rattle.jv_model.specs.Input.{number_at, in_front};
 
 use crate::constant::read_constant;
 use crate::error::ClassError;
-use crate::text::is_text;
-use jv_types::{Const, Input, List, NoMemory, tag};
+use jv_types::{Const, Input, List, NoMemory, is_text, tag};
 use std::alloc::Global;
 use std::marker::Model;
 

@@ -23,7 +23,6 @@ mod constant_pool;
 mod error;
 mod member;
 mod modified_utf8;
-mod text;
 
 pub use class_file::read_class;
 pub use error::ClassError;

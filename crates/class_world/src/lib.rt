@@ -21,6 +21,6 @@ mod world;
 
 pub use class_info::{ClassInfo, FieldPlace, Origin};
 pub use hierarchy::{field_order, is_cyclic, supertypes};
-pub use pool::text_at;
+pub use pool::class_name_at;
 pub use signatures::member_signatures;
 pub use world::World;

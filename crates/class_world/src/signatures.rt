@@ -6,9 +6,8 @@ ghost use Rattle.jv_types.specs.ClassData.{pool_of};
 ghost use Rattle.class_world.specs.Signatures.{AddsSignature, GivesSignatures, GivesDeclared, member_pair, boot_field_pair, boot_method_pair, field_pairs, method_pairs, has_members_once};
 
 use crate::class_info::{ClassInfo, Origin};
-use crate::pool::text_at;
 use class_names::{Names, Signature, Signatures};
-use jv_types::{BootField, BootMethod, Const, List, Member, NoMemory};
+use jv_types::{BootField, BootMethod, Const, List, Member, NoMemory, text_at};
 use std::alloc::Global;
 
 /// For each class the signatures of its own fields, and of its own methods.

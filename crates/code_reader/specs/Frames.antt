@@ -1,12 +1,12 @@
 -- Which bounds, types and frames of the definitions these are.
-use Rattle.std.specs.Prelude.{ℕ, List, map}
+use Rattle.std.specs.Prelude.{◌≡◌, ℕ, List, [], ◌∷◌, ◌++◌, Option, Some, None, take}
 use Rattle.jv_types.specs.ClassData.{pool_of}
-use Rattle.jv_types.specs.Code.{map_types_of, frame_of}
-use Rattle.jv_types.specs.declared.code.MapFrame.{MapFrame}
-use Rattle.jv_model.specs.Code as code
+use Rattle.jv_types.specs.Code.{map_types_of}
+use Rattle.jv_model.specs.Code.{MapType, MapFrame}
+use Rattle.code_model.specs.StackMapEntries.{Entry}
 use Rattle.code_model.specs.StackMaps as model
 use Rattle.code_reader.specs.declared.frames.Bounds.{Bounds}
-use Rattle.code_reader.specs.declared.frames.Types.{Types}
+use Rattle.code_reader.specs.declared.frames.Change.{Change}
 
 abbrev pub bounds_of : Bounds → model.Bounds
 bounds_of bounds = record {
@@ -16,8 +16,18 @@ bounds_of bounds = record {
   instructions = bounds.instructions.now;
 }
 
-abbrev pub types_in : Types → model.Types
-types_in types = (map_types_of types.locals.items, map_types_of types.stack.items)
+abbrev pub Locals : Type 0
+Locals = List (MapType ℕ)
 
-abbrev pub frames_in : List MapFrame → List (code.MapFrame ℕ)
-frames_in frames = map frame_of frames
+-- those of a frame, behind one with these locals
+abbrev pub types_after : Locals → Change → model.Types
+types_after before change =
+    (take change.kept before ++ map_types_of change.locals.items, map_types_of change.stack.items)
+
+-- The frame of an entry behind a frame at that place with these locals is added to the old ones, and
+-- this is its place; without a place there is no such frame.
+abbrev pub AddsFrame :
+    model.Bounds → Option ℕ → Locals → Entry → List (MapFrame ℕ) → List (MapFrame ℕ) → Option ℕ → Type 0
+AddsFrame bounds place before entry old new None = None ≡ model.frame_of bounds place before entry
+AddsFrame bounds place before entry old new (Some pc) =
+    (frame : MapFrame ℕ) × (Some frame ≡ model.frame_of bounds place before entry) × (new ≡ old ++ frame ∷ []) × (frame.pc ≡ pc)

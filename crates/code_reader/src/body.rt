@@ -86,7 +86,7 @@ pub fn read_body(
         max_locals: parts.max_locals,
         instructions: &instructions,
     };
-    let frames = read_frames(alloc, bounds, method, first, &parts.map)?;
+    let frames = read_frames(alloc, bounds, method, &first, &parts.map)?;
     Ok(CodeBody {
         max_stack: parts.max_stack,
         max_locals: parts.max_locals,

@@ -1,12 +1,13 @@
 //! The frames of a stack map (JVMS 4.7.4): all their locals and their stacks, at their places.
 
-ghost use Rattle.std.specs.Prelude.{◌≡◌, ◌<◌, ◌+◌, ◌^◌, ◌==◌, ℕ, true, IfOk, IfSome, option_map};
-ghost use Rattle.code_model.specs.StackMaps.{is_known, known_type, known_types, types_of, words_of, place_behind, fits, frame_of};
+ghost use Rattle.std.specs.Prelude.{◌≡◌, ◌<◌, ◌+◌, ◌^◌, ◌==◌, ◌++◌, ◌∷◌, [], true, nat_le, length, take, IfOk, OnOk, IfSome, option_map};
+ghost use Rattle.code_model.specs.StackMaps.{is_known, known_type, known_types, types_of, words_of, place_behind, fits, frame_at};
 ghost use Rattle.code_model.specs.CodeReading.{frames_of};
 ghost use Rattle.jv_types.specs.ClassData.{pool_of};
-ghost use Rattle.jv_types.specs.Code.{map_type_of, map_types_of, frame_of as map_frame_of};
+ghost use Rattle.jv_types.specs.Code.{map_type_of, map_types_of};
+ghost use Rattle.jv_types.specs.Frames.{locals_behind, last_locals};
 ghost use Rattle.jv_types.specs.Instructions.{most_places};
-ghost use Rattle.code_reader.specs.Frames.{bounds_of, types_in, frames_in};
+ghost use Rattle.code_reader.specs.Frames.{Locals, bounds_of, types_after, AddsFrame};
 ghost use Rattle.code_reader.specs.Gives.{GivesCode};
 ghost use Rattle.code_reader.specs.Parts.{entry_type_of, entry_types_of, form_of, entry_of, table_of};
 ghost use Rattle.code_reader.specs.Near.{are_near};
@@ -15,7 +16,7 @@ use crate::error::CodeError;
 use crate::map_entry::{Entry, EntryType, FrameForm, MapTable};
 use crate::places::is_start;
 use class_pool::names;
-use jv_types::{Const, Instructions, List, MapFrame, MapType, NoMemory, tag};
+use jv_types::{Const, Frames, Instructions, List, MapType, NoMemory, tag};
 use std::alloc::Global;
 
 /// What frames have to fit.
@@ -27,9 +28,12 @@ pub struct Bounds<'a> {
     pub instructions: &'a Instructions,
 }
 
-/// The locals and the stack of a frame.
+/// What a frame's locals and its stack are, beside the locals of the frame before it.
 #[derive(Drop)]
-struct Types {
+struct Change {
+    /// So many of those locals stay.
+    kept: u32,
+    /// These come behind them.
     locals: List<MapType>,
     stack: List<MapType>,
 }
@@ -82,48 +86,49 @@ fn known_types(
     Ok(Some(known))
 }
 
-/// The locals `before`, and a stack of one item or of none.
-fn same_locals(alloc: Global, before: &[MapType], stack: &[MapType]) -> Result<Types, NoMemory>
-    ensures { IfOk result (λ types.
-        types_in types ≡ (map_types_of before.now, map_types_of stack.now)) }
+/// So many of the locals before and these behind them, and an empty stack.
+fn with_locals(alloc: Global, kept: u32, locals: List<MapType>) -> Change
+    ensures { (before : Locals) → types_after before result
+        ≡ (take kept before ++ map_types_of locals.items, []) }
 {
-    Ok(Types {
-        locals: List::from_slice(alloc, before)?,
-        stack: List::from_slice(alloc, stack)?,
-    })
+    Change {
+        kept,
+        locals,
+        stack: List::new(alloc),
+    }
 }
 
-/// The types of a frame of a form, behind one with these locals.
+/// What a frame of a form changes, behind one with so many locals.
 #[tactic(auto, unfolding(code_model::specs::StackMaps::types_of))]
-fn types_of(
+fn change_of(
     alloc: Global,
     pool: &List<Const>,
-    before: &List<MapType>,
+    count: u32,
     form: &FrameForm,
-) -> Result<Option<Types>, NoMemory>
-    ensures { IfOk result (λ types. option_map types_in types ≡ types_of (pool_of pool.now.items)
-        (map_types_of before.now.items) (form_of form.now)) }
+) -> Result<Option<Change>, NoMemory>
+    ensures { IfOk result (λ change. (before : Locals) → length before ≡ count
+        → option_map (types_after before) change
+        ≡ types_of (pool_of pool.now.items) before (form_of form.now)) }
 {
     match form {
-        FrameForm::Same => Ok(Some(same_locals(alloc, before.as_slice(), &[])?)),
+        FrameForm::Same => Ok(Some(with_locals(alloc, count, List::new(alloc)))),
         FrameForm::SameWithItem(item) => match known_type(pool, *item) {
-            Some(known) => Ok(Some(same_locals(alloc, before.as_slice(), &[known])?)),
+            Some(known) => Ok(Some(Change {
+                kept: count,
+                locals: List::new(alloc),
+                stack: List::from_slice(alloc, &[known])?,
+            })),
             None => Ok(None),
         },
-        FrameForm::Chop(count) => {
-            let gone = u32::from(*count);
-            if gone > before.len() {
+        FrameForm::Chop(gone) => {
+            let gone = u32::from(*gone);
+            if gone > count {
                 return Ok(None);
             }
-            let kept = (before.len() - gone) as usize;
-            Ok(Some(same_locals(alloc, &before.as_slice()[..kept], &[])?))
+            Ok(Some(with_locals(alloc, count - gone, List::new(alloc))))
         }
         FrameForm::Append(types) => match known_types(alloc, pool, types)? {
-            Some(more) => {
-                let mut types = same_locals(alloc, before.as_slice(), &[])?;
-                types.locals.append(more.as_slice())?;
-                Ok(Some(types))
-            }
+            Some(locals) => Ok(Some(with_locals(alloc, count, locals))),
             None => Ok(None),
         },
         FrameForm::Full(locals, stack) => {
@@ -131,7 +136,11 @@ fn types_of(
                 return Ok(None);
             };
             match known_types(alloc, pool, stack)? {
-                Some(stack) => Ok(Some(Types { locals, stack })),
+                Some(stack) => Ok(Some(Change {
+                    kept: 0,
+                    locals,
+                    stack,
+                })),
                 None => Ok(None),
             }
         }
@@ -152,15 +161,27 @@ fn words_of(types: &[MapType]) -> u64
     words
 }
 
-/// Whether a frame stands at an instruction, with no more words than the method's frames have.
-fn fits(bounds: Bounds, frame: &MapFrame) -> bool
-    requires { are_near bounds.instructions.now ≡ true }
-    ensures fits { result ≡ fits (bounds_of bounds.entry) (map_frame_of frame.now) }
-    ensures near { result ≡ true → frame.now.pc < most_places }
+/// Whether the last frame's locals have no more words than there may be.
+fn locals_fit(frames: &Frames, max_locals: u16) -> bool
+    ensures { result ≡ nat_le (words_of (last_locals frames.now)) max_locals }
 {
-    is_start(bounds.instructions, frame.pc)
-        && words_of(frame.locals.as_slice()) <= u64::from(bounds.max_locals)
-        && words_of(frame.stack.as_slice()) <= u64::from(bounds.max_stack)
+    frames.local_words() <= u64::from(max_locals)
+}
+
+/// Whether the last frame, which has this place and stack, stands at an instruction, with no more
+/// words than the method's frames have.
+fn fits(bounds: Bounds, frames: &Frames, pc: u32, stack: &List<MapType>) -> bool
+    requires { are_near bounds.instructions.now ≡ true }
+    ensures fits { result ≡ fits (bounds_of bounds.entry) (record {
+      pc = pc;
+      locals = last_locals frames.now;
+      stack = map_types_of stack.now.items;
+    }) }
+    ensures near { result ≡ true → pc < most_places }
+{
+    is_start(bounds.instructions, pc)
+        && locals_fit(frames, bounds.max_locals)
+        && words_of(stack.as_slice()) <= u64::from(bounds.max_stack)
 }
 
 /// The place of a frame behind another, or behind the begin of the code.
@@ -174,32 +195,77 @@ fn place_behind(place: Option<u32>, delta: u16) -> u32
     }
 }
 
-/// The frame of an entry, behind a frame at that place with these locals.
-#[tactic(auto, unfolding(code_model::specs::StackMaps::frame_of))]
-fn frame_of(
+/// How many locals a frame behind these has before it: those of the last one, or the first locals.
+fn count_before(first: &List<MapType>, frames: &Frames) -> u32
+    ensures { result ≡ length (locals_behind (map_types_of first.now.items) frames.now) }
+{
+    if frames.is_empty() {
+        first.len()
+    } else {
+        frames.local_count()
+    }
+}
+
+/// All the locals of a frame behind one with these.
+fn locals_after(
+    alloc: Global,
+    before: &List<MapType>,
+    change: &Change,
+) -> Result<List<MapType>, NoMemory>
+    ensures { IfOk result (λ locals. map_types_of locals.items
+        ≡ take change.now.kept (map_types_of before.now.items)
+        ++ map_types_of change.now.locals.items) }
+{
+    let mut locals = before.copy(alloc)?;
+    locals.cut(change.kept);
+    locals.append(change.locals.as_slice())?;
+    Ok(locals)
+}
+
+/// Adds a frame that changes the locals before it. The first frame shares none, so that the first
+/// locals take no memory where no frame has them.
+fn push_change(
+    alloc: Global,
+    first: &List<MapType>,
+    frames: &mut Frames,
+    pc: u32,
+    change: &Change,
+) -> Result<(), NoMemory>
+    ensures { OnOk result (frames.new ≡ frames.old ++ frame_at pc
+        (types_after (locals_behind (map_types_of first.now.items) frames.old) change.now) ∷ []) }
+{
+    if frames.is_empty() {
+        let locals = locals_after(alloc, first, change)?;
+        return frames.push(pc, 0, &locals, &change.stack);
+    }
+    frames.push(pc, change.kept, &change.locals, &change.stack)
+}
+
+/// Adds the frame of an entry, behind the others, of which the last is at that place. Its own place,
+/// unless the entry has no frame that fits; then nothing is said of the frames.
+fn push_frame(
     alloc: Global,
     bounds: Bounds,
+    first: &List<MapType>,
+    frames: &mut Frames,
     place: Option<u32>,
-    before: &List<MapType>,
     entry: &Entry,
-) -> Result<Option<MapFrame>, NoMemory>
+) -> Result<Option<u32>, NoMemory>
     requires place { IfSome place (λ before. before < most_places) }
     requires near { are_near bounds.instructions.now ≡ true }
-    ensures frame { IfOk result (λ frame. option_map map_frame_of frame
-        ≡ frame_of (bounds_of bounds.entry) place (map_types_of before.now.items)
-        (entry_of entry.now)) }
-    ensures near { IfOk result (λ frame. IfSome frame (λ given. given.pc < most_places)) }
+    ensures added { IfOk result (AddsFrame (bounds_of bounds.entry) place
+        (locals_behind (map_types_of first.now.items) frames.old) (entry_of entry.now)
+        frames.old frames.new) }
+    ensures near { IfOk result (λ pc. IfSome pc (λ given. given < most_places)) }
 {
-    let Some(types) = types_of(alloc, bounds.pool, before, &entry.form)? else {
+    let before = count_before(first, frames);
+    let Some(change) = change_of(alloc, bounds.pool, before, &entry.form)? else {
         return Ok(None);
     };
-    let frame = MapFrame {
-        pc: place_behind(place, entry.offset_delta),
-        locals: types.locals,
-        stack: types.stack,
-    };
-    if fits(bounds, &frame) {
-        Ok(Some(frame))
+    let pc = place_behind(place, entry.offset_delta);
+    push_change(alloc, first, frames, pc, &change)?;
+    if fits(bounds, frames, pc, &change.stack) {
+        Ok(Some(pc))
     } else {
         Ok(None)
     }
@@ -210,25 +276,22 @@ pub fn read_frames(
     alloc: Global,
     bounds: Bounds,
     method: u32,
-    first: List<MapType>,
+    first: &List<MapType>,
     table: &MapTable,
-) -> Result<List<MapFrame>, CodeError>
+) -> Result<Frames, CodeError>
     requires { are_near bounds.instructions.now ≡ true }
-    ensures { GivesCode method (λ frames. frames_in frames.items) result
-        (frames_of (bounds_of bounds.entry) method (map_types_of first.items)
+    ensures { GivesCode method (λ frames. frames) result
+        (frames_of (bounds_of bounds.entry) method (map_types_of first.now.items)
         (table_of method table.now)) }
 {
-    let mut frames = List::new(alloc);
-    let mut before = first;
+    let mut frames = Frames::new(alloc);
     let mut place = None;
     for index in 0..table.entries.len() {
         let entry = table.entries.get(index);
-        let Some(frame) = frame_of(alloc, bounds, place, &before, entry)? else {
+        let Some(pc) = push_frame(alloc, bounds, first, &mut frames, place, entry)? else {
             return Err(CodeError::MapFrame { index });
         };
-        place = Some(frame.pc);
-        before = frame.locals.copy(alloc)?;
-        frames.push(frame)?;
+        place = Some(pc);
     }
     match table.end {
         Some(index) => Err(CodeError::MapFrame { index }),

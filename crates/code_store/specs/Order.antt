@@ -1,13 +1,8 @@
 -- How instructions stand in code that runs.
-use Rattle.std.specs.Prelude.{◌≡◌, ◌+◌, ◌<◌, ◌≤◌, ℕ, List, [], ◌∷◌}
+use Rattle.std.specs.Prelude.{◌+◌, ◌≤◌}
 use Rattle.jv_model.specs.Limits.{most_frame_words}
-use Rattle.jv_model.specs.Code.{Placed, Body}
-
--- they follow each other, from a place on
-abbrev pub Follows : {A : Type 0} → ℕ → List (Placed A) → Type 0
-Follows place [] = Unit {0}
-Follows place (placed ∷ others) =
-    (placed.pc ≡ place) × (placed.pc < placed.next) × Follows placed.next others
+use Rattle.jv_model.specs.Code.{Body}
+pub use Rattle.jv_types.specs.Instructions.{Follows}
 
 -- Code that can run: its instructions follow each other, and the words of its frame are no more
 -- than a frame's may be.

@@ -7,7 +7,7 @@ use Rattle.std.proofs.lemmas.List.Folds.{position_or_len_push}
 use Rattle.std.proofs.lemmas.List.Sums.{prefix_len-le-length}
 use Rattle.std.proofs.lemmas.Bool.{cases_Bool, ltb-true, ltb-false, eqb-true, eqb-false, eq-eqb, ne_eqb}
 use Rattle.jv_model.specs.Code.{Placed}
-use Rattle.jv_types.specs.Instructions.{starts_at, end_from, end_of, no_number, number_of, most_places, IsTable}
+use Rattle.jv_types.specs.Instructions.{starts_at, end_from, end_of, no_number, number_of, most_places, Follows, IsTable}
 
 -- ---- the first place after one more item
 
@@ -31,6 +31,12 @@ pub end_from_push : (place : ℕ) (xs : List (Placed ℕ)) (x : Placed ℕ)
 end_from_push place [] x = refl
 end_from_push place (first ∷ others) x = end_from_push first.next others x
 
+follows_push : (place : ℕ) (xs : List (Placed ℕ)) (x : Placed ℕ) → Follows place xs
+    → x.pc ≡ end_from place xs → x.pc < x.next → Follows place (xs ++ x ∷ [])
+follows_push place [] x order at some = (at, some, tt)
+follows_push place (first ∷ others) x order at some =
+    (order.0, order.1, follows_push first.next others x order.2 at some)
+
 -- past the number, the table has nothing
 nothing_in : (count at : ℕ) → get_or (replicate count no_number) at no_number ≡ no_number
 nothing_in count at = elim (cases_Bool (ltb at count)) [
@@ -50,6 +56,7 @@ nothing_after numbers number count pc after =
 
 pub empty_table : IsTable [] []
 empty_table = record {
+  order = tt;
   finds = λ pc. refl;
   few = omega arith;
   whole = refl;
@@ -106,6 +113,7 @@ table_push instructions numbers x number table follows some short is =
     ∙ ap (λ n. length numbers + suc n) (length-replicate count no_number)
     ∙ omega arith in
     record {
+      order = follows_push 0 instructions x table.order follows some;
       finds = finds_push instructions numbers x number count table at is (omega arith);
       few = omega (arith, longer, length-append instructions (x ∷ []));
       whole = end_from_push 0 instructions x ∙ omega (arith, longer);

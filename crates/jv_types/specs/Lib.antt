@@ -6,6 +6,8 @@ pub mod Status
 pub mod IntOperation
 pub mod Instruction
 pub mod Instructions
+pub mod MapFrame
+pub mod Frames
 pub mod Code
 pub mod Loaded
 pub mod ClassData

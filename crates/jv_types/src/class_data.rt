@@ -1,6 +1,8 @@
 //! What a class file says (JVMS 4.1).
 
 ghost use Rattle.std.specs.Prelude.{◌≡◌, IfOk};
+ghost use Rattle.jv_model.specs.ConstantPool.{units_at};
+ghost use Rattle.jv_types.specs.ClassData.{pool_of};
 
 use crate::duplicate::{Duplicate, copy_list};
 use crate::list::List;
@@ -34,6 +36,16 @@ pub enum Const {
     MethodType(u16),
     /// The number of a bootstrap method, and the index of a NameAndType.
     InvokeDynamic(u16, u16),
+}
+
+/// The text at an index of a constant pool, or none where no Utf8 entry is there.
+pub fn text_at(pool: &[Const], index: u16) -> &[u16]
+    ensures { result.now ≡ units_at (pool_of pool.now) index }
+{
+    match pool.get(usize::from(index)) {
+        Some(Const::Utf8(text)) => text.as_slice(),
+        _ => &[],
+    }
 }
 
 /// An attribute (JVMS 4.7).

@@ -4,7 +4,7 @@
 ghost use Rattle.std.specs.Prelude.{◌≡◌, IfOk};
 ghost use Rattle.jv_types.specs.Code.{body_of};
 
-use crate::duplicate::{Duplicate, copy_list};
+use crate::frames::Frames;
 use crate::instructions::Instructions;
 use crate::list::List;
 use crate::memory::NoMemory;
@@ -38,7 +38,8 @@ pub enum MapType {
     New(u32),
 }
 
-/// A frame of the stack map: the locals by number, a Long once, and the stack from the bottom up.
+/// A frame of the stack map by itself: the locals by number, a Long once, and the stack from the
+/// bottom up.
 #[derive(Debug, Drop)]
 pub struct MapFrame {
     pub pc: u32,
@@ -57,25 +58,7 @@ pub struct CodeBody {
     /// The rows of the exception table, the first one that fits first.
     pub handlers: List<Handler>,
     /// In the order of their places.
-    pub frames: List<MapFrame>,
-}
-
-impl Duplicate for MapFrame {
-    ghost use Rattle.std.specs.Prelude.{ℕ};
-    ghost use Rattle.jv_model.specs.Code.{MapFrame as ModelFrame};
-    ghost use Rattle.jv_types.specs.Code.{frame_of};
-
-    ghost Meaning = { ModelFrame ℕ };
-
-    ghost meaning = { frame_of };
-
-    fn copy(&self, alloc: Global) -> Result<MapFrame, NoMemory> {
-        Ok(MapFrame {
-            pc: self.pc,
-            locals: self.locals.copy(alloc)?,
-            stack: self.stack.copy(alloc)?,
-        })
-    }
+    pub frames: Frames,
 }
 
 impl CodeBody {
@@ -88,7 +71,7 @@ impl CodeBody {
             max_locals: self.max_locals,
             instructions: self.instructions.copy(alloc)?,
             handlers: self.handlers.copy(alloc)?,
-            frames: copy_list(alloc, &self.frames)?,
+            frames: self.frames.copy(alloc)?,
         })
     }
 }

@@ -1,7 +1,7 @@
 //! The instructions of a method, found by number and by place.
 
 ghost use Rattle.std.specs.Prelude.{◌≡◌, ◌++◌, ◌∷◌, [], ◌<◌, ◌≤◌, ◌-◌, ◌==◌, length, position, map, replicate, slice_get, Some, IfOk, OnOk, OnErr};
-ghost use Rattle.jv_types.specs.Instructions.{placed_of, starts_at, end_of, most_places, no_number};
+ghost use Rattle.jv_types.specs.Instructions.{placed_of, starts_at, end_of, most_places, no_number, Follows};
 
 use crate::duplicate::{Duplicate, copy_list};
 use crate::instruction::Instruction;
@@ -98,9 +98,11 @@ impl Instructions {
         self.rows.get(number)
     }
 
-    /// The number of the one that begins at that pc, where one does.
+    /// The number of the one that begins at that pc, where one does. No other begins there, since
+    /// they follow each other.
     pub fn number_at(&self, pc: u32) -> Option<u32>
-        ensures { result ≡ position (starts_at pc) self.now }
+        ensures found { result ≡ position (starts_at pc) self.now }
+        ensures order { Follows 0 self.now }
     {
         match self.numbers.as_slice().get(pc as usize) {
             Some(number) if *number != NO_NUMBER => Some(u32::from(*number)),

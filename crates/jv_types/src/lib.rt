@@ -20,6 +20,7 @@ pub mod code;
 mod duplicate;
 pub mod end;
 pub mod entry;
+pub mod frames;
 pub mod input;
 pub mod instruction;
 pub mod instructions;
@@ -38,10 +39,11 @@ pub mod tag;
 pub mod text;
 
 pub use boot::{BootClass, BootField, BootMethod};
-pub use class_data::{Attr, ClassData, Const, Member};
+pub use class_data::{Attr, ClassData, Const, Member, text_at};
 pub use code::{CodeBody, Handler, MapFrame, MapType};
 pub use end::End;
 pub use entry::Entry;
+pub use frames::{Frames, TypeRow};
 pub use input::{Cut, Input};
 pub use instruction::{
     Arithmetic, Comparison, Conversion, ElementKind, Instruction, PrimitiveType, Shift, StackForm,
@@ -58,7 +60,7 @@ pub use operand_stack::OperandStack;
 pub use refusal::{Cause, LineKind, Rule, What};
 pub use status::Status;
 pub use steps::Steps;
-pub use text::{Bytes, Text};
+pub use text::{Bytes, Text, is_text};
 
 #[cfg(test)]
 mod tests;

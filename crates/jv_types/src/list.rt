@@ -1,6 +1,6 @@
 //! A list with room that is reserved beforehand.
 
-ghost use Rattle.std.specs.Prelude.{◌≡◌, ◌+◌, ◌-◌, ◌<◌, ◌≤◌, ◌++◌, ◌∷◌, [], ◌==◌, length, vec_len, take, slice_get, slice_set, IsOk, IfOk, OnOk, OnErr, Some};
+ghost use Rattle.std.specs.Prelude.{◌≡◌, ◌+◌, ◌-◌, ◌<◌, ◌≤◌, ◌++◌, ◌∷◌, [], ◌==◌, length, vec_len, take, reverse, slice_get, slice_set, IsOk, IfOk, OnOk, OnErr, Some};
 ghost use Rattle.jv_types.specs.Sequence.{most_items};
 
 use crate::memory::NoMemory;
@@ -147,6 +147,14 @@ impl<T: Drop> List<T> {
         ensures spare { self.new.spare ≡ self.old.spare + (length self.old.items - n) }
     {
         self.rows.truncate(n as usize);
+    }
+
+    /// Puts the last item first and so on.
+    pub fn reverse(&mut self)
+        ensures items { self.new.items ≡ reverse self.old.items }
+        ensures spare { self.new.spare ≡ self.old.spare }
+    {
+        self.rows.reverse();
     }
 }
 

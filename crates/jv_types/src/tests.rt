@@ -129,12 +129,10 @@ fn endless(alloc: Global) -> Result<CodeBody, NoMemory> {
         target: 3,
         catch: Some(7),
     })?;
-    let mut frames = List::new(alloc);
-    frames.push(MapFrame {
-        pc: 3,
-        locals: List::from_slice(alloc, &[MapType::Argument(0), MapType::Long])?,
-        stack: List::from_slice(alloc, &[MapType::Object(7)])?,
-    })?;
+    let mut frames = Frames::new(alloc);
+    let locals = List::from_slice(alloc, &[MapType::Argument(0), MapType::Long])?;
+    let stack = List::from_slice(alloc, &[MapType::Object(7)])?;
+    frames.push(3, 0, &locals, &stack)?;
     Ok(CodeBody {
         max_stack: 1,
         max_locals: 3,
@@ -163,5 +161,31 @@ fn code_is_copied(rt: HostRuntime) -> Result<(), Fail> {
         format!(in alloc; "{copy:?}")?,
         format!(in alloc; "{body:?}")?
     );
+    Ok(())
+}
+
+#[test]
+fn frames_share_types(rt: HostRuntime) -> Result<(), Fail> {
+    let alloc = rt.alloc();
+    let none = List::new(alloc);
+    let three = [MapType::Argument(0), MapType::Long, MapType::Int];
+    let mut frames = Frames::new(alloc);
+    frames.push(0, 0, &List::from_slice(alloc, &three)?, &none)?;
+    frames.push(
+        4,
+        3,
+        &none,
+        &List::from_slice(alloc, &[MapType::Object(7)])?,
+    )?;
+    frames.push(9, 2, &List::from_slice(alloc, &[MapType::Null])?, &none)?;
+    assert_eq!(rt; frames.types().len(), 5);
+    assert_eq!(rt; frames.local_count(), 3);
+    assert_eq!(rt; frames.local_words(), 4);
+    assert_eq!(rt; frames.len(), 3);
+    assert_eq!(rt; frames.pc(1), 4);
+    let last = frames.frame(alloc, 2)?;
+    let locals = [MapType::Argument(0), MapType::Long, MapType::Null];
+    assert_eq!(rt; last.locals.as_slice(), locals.as_slice());
+    assert!(rt; last.stack.is_empty());
     Ok(())
 }

@@ -1,6 +1,6 @@
 //! Texts and bytes.
 
-ghost use Rattle.std.specs.Prelude.{◌≡◌, ◌++◌, IfOk, OnOk};
+ghost use Rattle.std.specs.Prelude.{◌≡◌, ◌++◌, bytes_eq, IfOk, OnOk};
 ghost use Rattle.std.specs.Char.Escape.{encode_utf16};
 ghost use Rattle.jv_model.specs.Utf16.{units_of_utf8};
 
@@ -38,4 +38,15 @@ pub fn units(alloc: Global, text: &str) -> Result<Text, NoMemory>
         push_character(&mut units, character)?;
     }
     Ok(units)
+}
+
+/// Whether the units are those of a text in ASCII.
+pub fn is_text(units: &[u16], text: &[u8]) -> bool
+    ensures { result ≡ bytes_eq units.now text.now }
+{
+    units.len() == text.len()
+        && units
+            .iter()
+            .zip(text)
+            .all(|(unit, byte)| *unit == u16::from(*byte))
 }

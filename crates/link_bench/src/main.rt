@@ -8,67 +8,33 @@
 //! manifest after the word `members` it prints a line for each member reference in their constant
 //! pools instead: the class, the index, and the class that declares what the reference names.
 //!
-//! It stands on `manifest_reader`, `class_loader`, `boot_classes` and `class_linker`, whose contracts
-//! say what is loaded and linked, on `use_faults` for what references name, on `run_text` for the line
-//! of a refusal, and on `jv_outer` for files and standard output.
+//! It stands on `linked_samples` and `boot_classes`, whose contracts say what is loaded and linked, on
+//! `use_faults` for what references name, on `run_text` for the line of a refusal, and on `jv_outer`
+//! for files and standard output.
 #![tactic(auto)]
 
-ghost use Rattle.std.specs.Prelude.{◌≡◌};
-ghost use Rattle.world_model.specs.BootTable.{boot_table as boot_rows};
-ghost use Rattle.jv_types.specs.Boot.{boot_classes_of};
+ghost use Rattle.class_loader.specs.Items.{AreRead};
 
 mod members;
 
 use crate::members::member_lines;
 use boot_classes::boot_table;
-use class_linker::{LinkError, link};
-use class_loader::{Stop, load_items, read_file};
-use class_world::World;
+use class_loader::Stop;
 use jv_outer::{DiskFiles, Files, StdSink, WriteError, write_all};
-use jv_types::text::units;
-use jv_types::{BootClass, Bytes, List, Loaded, NoMemory, Status, Text};
-use manifest_reader::read_manifest;
+use jv_types::{Bytes, List, NoMemory, Status};
+use linked_samples::{Program, link_program, load_program};
 use run_text::status_line;
 use std::alloc::Global;
 use std::env;
 use std::process::ExitCode;
 
-/// The classes of a program in the order of its items, and the name of its main class.
-#[derive(Drop)]
-struct Program {
-    classes: List<Loaded>,
-    main: Text,
-}
-
-/// The program that the manifest of this name and its class files say.
-fn load_program<F: Files>(alloc: Global, files: &mut F, name: &str) -> Result<Program, Stop> {
-    let text = read_file(alloc, files, name, 0, 0)?;
-    let manifest = read_manifest(alloc, text.as_slice())?;
-    let classes = load_items(alloc, files, &manifest.items)?;
-    let main = units(alloc, manifest.main)?;
-    Ok(Program { classes, main })
-}
-
-/// The world of the program on the boot classes. What refuses it is told of no item.
-fn link_once(alloc: Global, boot: &List<BootClass>, program: &Program) -> Result<World, Stop>
-    requires { boot_classes_of boot.now.items ≡ boot_rows }
-{
-    match link(alloc, boot, &program.classes, &program.main) {
-        Ok(world) => Ok(world),
-        Err(LinkError::Refused(cause)) => Err(Stop::Refused {
-            item: 0,
-            sub: 0,
-            cause,
-        }),
-        Err(LinkError::NoMemory) => Err(Stop::NoMemory),
-    }
-}
-
 /// Links the program so many times.
-fn link_again(alloc: Global, program: &Program, count: u32) -> Result<(), Stop> {
+fn link_again(alloc: Global, program: &Program, count: u32) -> Result<(), Stop>
+    requires { AreRead program.now.classes }
+{
     let boot = boot_table(alloc)?;
     for _ in 0..count {
-        link_once(alloc, &boot, program)?;
+        link_program(alloc, &boot, program)?;
     }
     Ok(())
 }
@@ -100,7 +66,7 @@ fn rounds<F: Files>(alloc: Global, files: &mut F, name: &str, count: u32) -> Res
 fn found_members<F: Files>(alloc: Global, files: &mut F, name: &str) -> Result<Bytes, Stop> {
     let program = load_program(alloc, files, name)?;
     let boot = boot_table(alloc)?;
-    let world = link_once(alloc, &boot, &program)?;
+    let world = link_program(alloc, &boot, &program)?;
     let lines = member_lines(alloc, &world)?;
     Ok(lines)
 }

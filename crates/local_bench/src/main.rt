@@ -10,7 +10,8 @@ ghost use Rattle.std.specs.Prelude.{◌≡◌, IfOk};
 ghost use Rattle.local_bench.specs.Loop.{IsLoop, loop};
 
 use jv_types::{
-    Arithmetic, CodeBody, Comparison, Insn, Instruction, Instructions, List, NoMemory, ValueKind,
+    Arithmetic, CodeBody, Comparison, Frames, Insn, Instruction, Instructions, List, NoMemory,
+    ValueKind,
 };
 use jv_values::Value;
 use local_runs::run::run;
@@ -56,7 +57,7 @@ fn loop_code(alloc: Global) -> Result<CodeBody, NoMemory>
         max_locals: 3,
         instructions: loop_instructions(alloc)?,
         handlers: List::new(alloc),
-        frames: List::new(alloc),
+        frames: Frames::new(alloc),
     })
 }
 

@@ -9,8 +9,8 @@ ghost use Rattle.jv_types.specs.ClassData.{pool_of};
 ghost use Rattle.look_up_cache.specs.Found.{found_in};
 ghost use Rattle.look_up_cache.specs.Targets.{named_target, most_steps, class_target, field_target, method_target};
 
-use class_world::{FieldPlace, World, text_at};
-use jv_types::{ClassNo, Const, MethodNo, Steps};
+use class_world::{FieldPlace, World, class_name_at};
+use jv_types::{ClassNo, Const, MethodNo, Steps, text_at};
 use std::sync::ledger::Ledger;
 
 /// The class whose methods arrays have (JVMS 4.10.1.2), as units of UTF-16.
@@ -35,16 +35,6 @@ struct Member<'a> {
     class: &'a [u16],
     name: &'a [u16],
     descriptor: &'a [u16],
-}
-
-/// The name of a class at an index (JVMS 4.4.1), or nothing where no class is there.
-fn class_name_at(pool: &[Const], index: u16) -> &[u16]
-    ensures { result.now ≡ class_name_in (pool_of pool.now) index }
-{
-    match pool.get(usize::from(index)) {
-        Some(Const::Class(name)) => text_at(pool, *name),
-        _ => &[],
-    }
 }
 
 /// The member with that class, and with the name and the descriptor at an index (JVMS 4.4.6).

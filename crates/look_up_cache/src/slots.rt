@@ -16,8 +16,8 @@ use crate::by_name::{Resolved, look_up};
 use crate::slot::Slot;
 use crate::words::FieldWords;
 use class_versions::Versions;
-use class_world::{World, text_at};
-use jv_types::{Const, Steps};
+use class_world::World;
+use jv_types::{Const, Steps, text_at};
 use std::sync::ledger::Ledger;
 
 /// What stands for a class, a field or a method.

@@ -1,8 +1,8 @@
 -- Types as locals, and as operands.
-use Rattle.std.proofs.Common.{◌≡◌, ℕ, zero, suc, ◌+◌, ◌-◌, ◌<◌, Bool, true, false, List, [], ◌∷◌, ◌++◌, length, replicate, reverse, map, ap, sym, subst, ◌∙◌, refl, arith, if◌then◌else◌, append_assoc, length-append, leb}
+use Rattle.std.proofs.Common.{◌≡◌, ℕ, zero, suc, ◌+◌, ◌-◌, ◌≤◌, Bool, true, false, List, [], ◌∷◌, ◌++◌, length, replicate, reverse, map, ap, sym, subst, ◌∙◌, refl, arith, if◌then◌else◌, append_assoc, length-append, leb}
 use Rattle.std.proofs.lemmas.Bool.Decides.{leb_tells}
 use Rattle.std.proofs.lemmas.Grind.{flat_map-append}
-use Rattle.std.proofs.lemmas.List.{length-map, length-replicate, map-append, reverse-append}
+use Rattle.std.proofs.lemmas.List.{length-map, length-replicate, replicate-append-replicate, map-append, reverse-append}
 use Rattle.std.proofs.lemmas.List.Elements.{All-append, All-replicate}
 use Rattle.std.proofs.lemmas.Simd.{map-map}
 use Rattle.jv_model.specs.ClassData.{Const}
@@ -41,12 +41,18 @@ pub max-locals : (e : Environment) (pool : List Const) (descriptor : List ℕ) (
 unfolding named
 max-locals e pool descriptor body is = ap (λ (b : Body Operand). b.max_locals) is
 
-pub filled-more : {A : Type 0} (items : List A) (item : A) (most : ℕ) → length items < most
-    → (items ++ item ∷ []) ++ replicate (most - length (items ++ item ∷ [])) item ≡ items ++ replicate (most - length items) item
-filled-more items item most few =
-    let more : length (items ++ item ∷ []) ≡ length items + 1 = length-append items (item ∷ []) in
-    let left : most - length items ≡ suc (most - (length items + 1)) = omega (arith, few) in
-    rw (more, left) (append_assoc items (item ∷ []) (replicate (most - (length items + 1)) item))
+-- some places more are filled
+pub filled-more : {A : Type 0} (items : List A) (item : A) (most count : ℕ) → count ≤ most - length items
+    → (items ++ replicate count item) ++ replicate (most - length (items ++ replicate count item)) item
+    ≡ items ++ replicate (most - length items) item
+filled-more items item most count few =
+    let more : length (items ++ replicate count item) ≡ length items + count =
+    length-append items (replicate count item) ∙ ap (λ (n : ℕ). length items + n) (length-replicate count item) in
+    let left : count + (most - (length items + count)) ≡ most - length items = omega (arith, few) in
+    rw more
+    (append_assoc items (replicate count item) (replicate (most - (length items + count)) item)
+    ∙ ap (λ (l : List _). items ++ l)
+    (replicate-append-replicate count (most - (length items + count)) item ∙ ap (λ (n : ℕ). replicate n item) left))
 
 -- filled up they are no more than they are to be exactly where they were no more
 pub room-filled : {A : Type 0} (items : List A) (item : A) (most : ℕ)

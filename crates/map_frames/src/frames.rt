@@ -136,6 +136,7 @@ fn map_locals(
     ensures known { IfOk result (λ locals. AreKnown world.now locals.items) }
 {
     let mut locals = List::new(alloc);
+    locals.reserve(u32::from(code.body.max_locals))?;
     for there in types {
         push_local(&mut locals, map_type(world, code, *there))?;
     }

@@ -1,6 +1,6 @@
 //! Types as locals (JVMS 4.10.1.4): behind a Long comes Top, and Top fills them up.
 
-ghost use Rattle.std.specs.Prelude.{◌≡◌, ◌++◌, ◌-◌, ◌∷◌, [], length, replicate, OnOk};
+ghost use Rattle.std.specs.Prelude.{◌≡◌, ◌++◌, ◌-◌, ◌≤◌, ◌∷◌, [], length, replicate, OnOk};
 ghost use Rattle.world_model.specs.World.{World as ModelWorld};
 ghost use Rattle.typing_model.specs.DescriptorFrame.{as_locals};
 ghost use Rattle.type_rules.specs.Types.{type_of, IsKnownType};
@@ -26,13 +26,28 @@ pub fn push_local(
     }
 }
 
+/// How many are added at once.
+const MOST: u32 = 32;
+
+const TOPS: [VerificationType; 32] = [VerificationType::Top; 32];
+
+/// Adds so many Tops.
+fn add_tops(locals: &mut List<VerificationType>, count: u32) -> Result<(), NoMemory>
+    requires { count ≤ 32 }
+    ensures { OnOk result (locals.new.items
+        ≡ locals.old.items ++ replicate count VerificationType.Top) }
+{
+    locals.append(&TOPS[..count as usize])
+}
+
 /// Fills locals up with Top.
 pub fn fill(locals: &mut List<VerificationType>, max_locals: u16) -> Result<(), NoMemory>
     ensures { OnOk result (locals.new.items ≡ locals.old.items
         ++ replicate (max_locals - length locals.old.items) VerificationType.Top) }
 {
     while locals.len() < u32::from(max_locals) {
-        locals.push(VerificationType::Top)?;
+        let left = u32::from(max_locals) - locals.len();
+        add_tops(locals, left.min(MOST))?;
     }
     Ok(())
 }

@@ -15,8 +15,6 @@ use Rattle.typing_model.specs.VerificationType.{TypeFrame, is_same}
 use Rattle.typing_model.specs.Environment.{Environment}
 use Rattle.typing_model.specs.Transition.{popped, operand_at}
 use Rattle.typing_model.specs.CallTypes.{are_arguments, is_made_at, initialized, with_each, constructor_called}
-use Rattle.jv_types.specs.Instructions.{placed_of}
-use Rattle.jv_types.specs.declared.instructions.Insn.{Insn}
 use Rattle.type_rules.specs.declared.types.VerificationType.{VerificationType}
 use Rattle.type_rules.specs.declared.types.VerificationType.TheVariants as types
 use Rattle.type_rules.specs.Types.{type_of}
@@ -29,16 +27,15 @@ use Rattle.member_types.specs.Constructors.{makes, taken_and_replaced}
 
 -- ---- where an object was made
 
-any-map : {A B C : Type 0} (p : C → Bool) (f : B → C) (h : A → B) (xs : List A)
-    → list_any p (map f (map h xs)) ≡ list_any (λ x. p (f (h x))) xs
-any-map p f h [] = refl
-any-map p f h (x ∷ xs) = ap (λ (b : Bool). p (f (h x)) || b) (any-map p f h xs)
+any-map : {A B : Type 0} (p : B → Bool) (f : A → B) (xs : List A) → list_any p (map f xs) ≡ list_any (λ x. p (f x)) xs
+any-map p f [] = refl
+any-map p f (x ∷ xs) = ap (λ (b : Bool). p (f x) || b) (any-map p f xs)
 
-pub made-at : (e : Environment) (name : List ℕ) (pc : ℕ) (pool : List Const) (instructions : List (Placed ℕ)) (rows : List Insn)
-    → e.body.instructions ≡ map (named_placed pool) instructions → map placed_of rows ≡ instructions
-    → is_made_at e name pc ≡ list_any (λ insn. makes name pc (named_placed pool (placed_of insn))) rows
-made-at e name pc pool instructions rows is are =
-    ap (list_any (makes name pc)) (is ∙ ap (map (named_placed pool)) (sym are)) ∙ any-map (makes name pc) (named_placed pool) placed_of rows
+pub made-at : (e : Environment) (name : List ℕ) (pc : ℕ) (pool : List Const) (instructions : List (Placed ℕ))
+    → e.body.instructions ≡ map (named_placed pool) instructions
+    → is_made_at e name pc ≡ list_any (λ placed. makes name pc (named_placed pool placed)) instructions
+made-at e name pc pool instructions is =
+    ap (list_any (makes name pc)) is ∙ any-map (makes name pc) (named_placed pool) instructions
 
 -- ---- the receiver
 

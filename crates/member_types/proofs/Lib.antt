@@ -9,3 +9,4 @@ pub mod NewObjects
 pub mod LinkedMethods
 pub mod Called
 pub mod ConstructorCalls
+mod MadeAt

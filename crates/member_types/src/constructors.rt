@@ -1,7 +1,8 @@
 //! Calls of constructors, and `invokespecial` (JVMS 4.10.1.9).
 
-ghost use Rattle.std.specs.Prelude.{◌≡◌, true, option_map, IfSome, OnOk};
+ghost use Rattle.std.specs.Prelude.{◌≡◌, ℕ, true, option_map, IfSome, OnOk};
 ghost use Rattle.std.specs.List.{list_any};
+ghost use Rattle.jv_model.specs.Code.{Placed};
 ghost use Rattle.world_model.specs.World.{Class};
 ghost use Rattle.code_model.specs.Names.{operand_at, named_placed};
 ghost use Rattle.code_model.specs.MappedInstruction.{mapped_instruction};
@@ -11,7 +12,6 @@ ghost use Rattle.typing_model.specs.Environment.{Environment as ModelEnvironment
 ghost use Rattle.typing_model.specs.CallTypes.{is_new_of as is_model_new_of, is_own_or_super as is_model_own_or_super, initialized as model_initialized};
 ghost use Rattle.jv_types.specs.ClassData.{pool_of};
 ghost use Rattle.jv_types.specs.Instruction.{instruction_of};
-ghost use Rattle.jv_types.specs.Instructions.{placed_of};
 ghost use Rattle.type_rules.specs.Types.{type_of, IsKnownType};
 ghost use Rattle.type_rules.specs.Frames.{IsKnownFrame};
 ghost use Rattle.instruction_types.specs.Environment.{IsEnvironment, IsReady};
@@ -29,7 +29,7 @@ use crate::replacements::{
 use crate::signatures::{operands_wanted, read_signature};
 use class_world::World;
 use instruction_types::{Environment, TypingError, Wanted, pop_all};
-use jv_types::{Const, Insn, Instruction, Instructions, Steps};
+use jv_types::{Const, Instruction, Instructions, Steps};
 use std::alloc::Global;
 use std::sync::ledger::Ledger;
 use type_rules::{TypeFrame, VerificationType};
@@ -56,25 +56,15 @@ fn is_new_of(pool: &[Const], instruction: &Instruction, class: &[u16]) -> bool
     }
 }
 
-/// Whether an instruction stands at that pc, and is a `new` of that class.
-fn makes(pool: &[Const], insn: &Insn, class: &[u16], pc: u32) -> bool
-    ensures { result
-        ≡ model_makes class.now pc (named_placed (pool_of pool.now) (placed_of insn.now)) }
-{
-    insn.pc == pc && is_new_of(pool, &insn.instruction, class)
-}
-
 /// Whether at that pc a `new` of that class stands.
-fn is_made_at(pool: &[Const], instructions: &[Insn], class: &[u16], pc: u32) -> bool
-    ensures { result ≡ list_any (λ insn. model_makes class.now pc
-        (named_placed (pool_of pool.now) (placed_of insn))) instructions.now }
+fn is_made_at(pool: &[Const], instructions: &Instructions, class: &[u16], pc: u32) -> bool
+    ensures { result ≡ list_any (λ (placed : Placed ℕ). model_makes class.now pc
+        (named_placed (pool_of pool.now) placed)) instructions.now }
 {
-    for insn in instructions {
-        if makes(pool, insn, class, pc) {
-            return true;
-        }
+    match instructions.number_at(pc) {
+        Some(number) => is_new_of(pool, &instructions.get(number).instruction, class),
+        None => false,
     }
-    false
 }
 
 /// Whether a name is that of the method's own class, or of its superclass.
@@ -114,7 +104,7 @@ fn initialized_new(world: &World, code: &Code, class: &[u16], pc: u32) -> Option
         → option_map (type_of world.now) result ≡ model_initialized e class.now (new_at pc) }
     ensures known { IfSome result (IsKnownType world.now) }
 {
-    if is_made_at(code.pool, code.instructions.as_slice(), class, pc) {
+    if is_made_at(code.pool, code.instructions, class, pc) {
         let made = world.class_named(class).unwrap();
         Some(VerificationType::Class(made))
     } else {

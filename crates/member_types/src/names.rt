@@ -8,8 +8,8 @@ ghost use Rattle.jv_types.specs.ClassData.{pool_of};
 ghost use Rattle.class_world.specs.World.{name_at};
 ghost use Rattle.member_types.specs.Names.{reference_of};
 
-use class_world::{World, text_at};
-use jv_types::{ClassNo, Const};
+use class_world::{World, class_name_at};
+use jv_types::{ClassNo, Const, text_at};
 
 /// A symbolic reference to a field or a method (JVMS 5.1).
 #[derive(Clone, Copy)]
@@ -17,16 +17,6 @@ pub struct MemberName<'a> {
     pub class: &'a [u16],
     pub name: &'a [u16],
     pub descriptor: &'a [u16],
-}
-
-/// The name in the Class entry at an index, or none where no such entry is there.
-fn class_text(pool: &[Const], index: u16) -> &[u16]
-    ensures { result.now ≡ class_name_at (pool_of pool.now) index }
-{
-    match pool.get(usize::from(index)) {
-        Some(Const::Class(name)) => text_at(pool, *name),
-        _ => &[],
-    }
 }
 
 /// The class or array that an operand names, where it isn't a member or a constant.
@@ -44,7 +34,7 @@ pub fn class_name(pool: &[Const], index: u16) -> Option<&[u16]>
             | Const::Methodref(_, _)
             | Const::InterfaceMethodref(_, _),
         ) => None,
-        _ => Some(class_text(pool, index)),
+        _ => Some(class_name_at(pool, index)),
     }
 }
 
@@ -78,7 +68,7 @@ pub fn member_name<'a>(pool: &'a [Const], index: u16) -> Option<MemberName<'a>>
             Const::Fieldref(owner, pair)
             | Const::Methodref(owner, pair)
             | Const::InterfaceMethodref(owner, pair),
-        ) => Some(member_of_pair(pool, class_text(pool, *owner), *pair)),
+        ) => Some(member_of_pair(pool, class_name_at(pool, *owner), *pair)),
         _ => None,
     }
 }

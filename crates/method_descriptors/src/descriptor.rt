@@ -4,8 +4,7 @@ ghost use Rattle.std.specs.Prelude.{◌≡◌, ◌≤◌, IfOk, IfSome, option_m
 ghost use Rattle.code_model.specs.TypeReading.{before_semicolon, is_part_unit, is_class_name, field_type_at, type_at, parameters_within, parameter_words, method_type_of, result_of};
 ghost use Rattle.method_descriptors.specs.Parameters.{kind_front, kinds_front, words_of_kind, kinds_of, is_there, arrays, behind_kinds};
 
-use crate::text::is_text;
-use jv_types::{List, NoMemory};
+use jv_types::{List, NoMemory, is_text};
 use std::alloc::Global;
 
 /// What the type of a parameter is, as far as its words and frames tell.

@@ -2,12 +2,10 @@
 //!
 //! It stands on `code_model`, whose definitions say what a descriptor spells, and on `jv_types` for
 //! lists. The contract above it is that of `parameter_kinds`, what each parameter is, and of
-//! `parameter_words`, how many words they take, both where the descriptor is well formed; and that
-//! `is_text` compares a text with a word. Only want of memory may come instead.
+//! `parameter_words`, how many words they take, both where the descriptor is well formed. Only want
+//! of memory may come instead.
 #![tactic(auto)]
 
 mod descriptor;
-mod text;
 
 pub use descriptor::{ParameterKind, parameter_kinds, parameter_words};
-pub use text::is_text;

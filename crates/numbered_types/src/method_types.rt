@@ -8,8 +8,8 @@ ghost use Rattle.numbered_types.specs.Methods.{types_before, method_shown, numbe
 use crate::field_types::{field_type, next_type};
 use crate::units::is_there;
 use class_world::World;
-use jv_types::{List, NoMemory};
-use method_descriptors::{is_text, parameter_words};
+use jv_types::{List, NoMemory, is_text};
+use method_descriptors::parameter_words;
 use std::alloc::Global;
 use type_rules::FieldType;
 

@@ -1,5 +1,5 @@
 -- A method that was read, as an environment of the definitions.
-use Rattle.std.proofs.Common.{◌≡◌, Bool, length, ℕ, true, List, Option, Some, None, map, get_or, option_map, option_and_then, ap, sym, ◌∙◌, refl}
+use Rattle.std.proofs.Common.{◌≡◌, Bool, length, ℕ, true, List, Option, Some, None, get_or, option_map, option_and_then, ap, sym, ◌∙◌, refl}
 use Rattle.std.specs.List.{All}
 use Rattle.std.specs.Option.{IfSome}
 use Rattle.jv_model.specs.ClassData.{Const}
@@ -18,7 +18,7 @@ use Rattle.typing_model.specs.FailingPlace.{failing_place, first_place, visits}
 use Rattle.typing_model.specs.WellTyped.{IsTypingTo, IsTyping}
 use Rattle.linked_laws.specs.Code.{InstructionIsLinked, FrameIsLinked}
 use Rattle.jv_types.specs.ClassData.{pool_of}
-use Rattle.jv_types.specs.Code.{body_of, frame_of}
+use Rattle.jv_types.specs.Code.{body_of}
 use Rattle.jv_types.specs.Loaded.{loaded_of}
 use Rattle.jv_types.specs.declared.number.ClassNo.{ClassNo}
 use Rattle.jv_types.specs.declared.class_data.Member.{Member}
@@ -103,7 +103,7 @@ module _ (world : World) (class : ClassInfo) (loaded : Loaded) (member : Member)
   instructions_there =
       instructions_linked world (pool_of loaded.file.pool.items) (units_at (pool_of loaded.file.pool.items) member.descriptor) (body_of body) linked.instructions
 
-  pub frames_there : All (HasLinkedEntries world (pool_of loaded.file.pool.items)) (map frame_of body.frames.items)
+  pub frames_there : All (HasLinkedEntries world (pool_of loaded.file.pool.items)) body.frames
   frames_there =
       frames_linked world (pool_of loaded.file.pool.items) (units_at (pool_of loaded.file.pool.items) member.descriptor) (body_of body) linked.frames
 

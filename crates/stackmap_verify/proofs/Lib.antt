@@ -11,3 +11,5 @@ pub mod Passing
 pub mod Switches
 pub mod Covering
 pub mod MethodFrames
+mod Watching
+mod SameTypes

@@ -1,5 +1,5 @@
 -- Numbers of frames, place by place.
-use Rattle.std.proofs.Common.{◌≡◌, ℕ, zero, suc, ◌+◌, ◌==◌, Bool, true, false, if◌then◌else◌, List, [], ◌∷◌, ◌++◌, Option, Some, None, length, find, take, slice_get, ap, sym, subst, ◌∙◌, refl, arith}
+use Rattle.std.proofs.Common.{◌≡◌, ℕ, zero, suc, ◌+◌, ◌==◌, Bool, true, false, if◌then◌else◌, List, [], ◌∷◌, ◌++◌, Option, Some, None, length, find, take, slice_get, option_map, ap, sym, subst, ◌∙◌, refl, arith}
 use Rattle.std.proofs.lemmas.List.{take_more, length-take-le}
 use Rattle.std.proofs.lemmas.Option.{slice_get_within, get_or_from_slice_get}
 use Rattle.jv_model.specs.Code.{MapFrame}
@@ -44,7 +44,7 @@ frame_more frames frame at None finds = by (frame.pc == at) refl
     by false other = found ∙ ap (λ (c : Bool). if c then Some frame else None) other
 
 -- one frame more has its number
-pub numbers_more : (frames : List (MapFrame ℕ)) (k : ℕ) (frame : MapFrame ℕ) (old new : List (Option ℕ)) → slice_get frames k ≡ Some frame
+numbers_more : (frames : List (MapFrame ℕ)) (k : ℕ) (frame : MapFrame ℕ) (old new : List (Option ℕ)) → slice_get frames k ≡ Some frame
     → ((at : ℕ) → number_in new at ≡ or_else (number_in old at) (number_if (frame.pc == at) k))
     → AreNumbers (take k frames) old → AreNumbers (take (k + 1) frames) new
 numbers_more frames k frame old new there adds are at =
@@ -57,3 +57,18 @@ numbers_more frames k frame old new there adds are at =
     subst (λ (l : List (MapFrame ℕ)). FindsFrame l at (number_in new at)) (sym taken)
     (subst (FindsFrame (take k frames ++ frame ∷ []) at)
     (ap (λ (n : ℕ). or_else (number_in old at) (number_if (frame.pc == at) n)) count ∙ sym (adds at)) finds)
+
+-- the same, by the place of the frame
+pub numbers_more_at : (frames : List (MapFrame ℕ)) (k pc : ℕ) (old new : List (Option ℕ))
+    → option_map (λ (frame : MapFrame ℕ). frame.pc) (slice_get frames k) ≡ Some pc
+    → ((at : ℕ) → number_in new at ≡ or_else (number_in old at) (number_if (pc == at) k))
+    → AreNumbers (take k frames) old → AreNumbers (take (k + 1) frames) new
+numbers_more_at frames k pc old new is adds are = by (slice_get frames k) refl is
+  where
+    by : (found : Option (MapFrame ℕ)) → slice_get frames k ≡ found
+        → option_map (λ (frame : MapFrame ℕ). frame.pc) found ≡ Some pc → AreNumbers (take (k + 1) frames) new
+    by None there at = absurd cc
+    by (Some frame) there at =
+        let same : pc ≡ frame.pc = cc in
+        numbers_more frames k frame old new there
+        (subst (λ (place : ℕ). (at : ℕ) → number_in new at ≡ or_else (number_in old at) (number_if (place == at) k)) same adds) are

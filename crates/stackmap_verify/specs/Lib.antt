@@ -11,3 +11,4 @@ pub mod Cover
 pub mod Visits
 pub mod Passed
 pub mod Typings
+pub mod Watch

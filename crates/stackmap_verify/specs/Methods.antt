@@ -1,10 +1,9 @@
 -- Which environment of the definitions a `Method` is.
-use Rattle.std.specs.Prelude.{◌≡◌, ℕ, map}
+use Rattle.std.specs.Prelude.{◌≡◌, ℕ}
 use Rattle.std.specs.List.{All}
 use Rattle.jv_model.specs.Code.{Placed}
 use Rattle.code_model.specs.Names.{named_placed}
 use Rattle.jv_types.specs.ClassData.{pool_of}
-use Rattle.jv_types.specs.Code.{frame_of}
 use Rattle.typing_model.specs.Environment as model
 use Rattle.typing_model.specs.DescriptorFrame.{has_room}
 use Rattle.linked_laws.specs.Code.{InstructionIsLinked}
@@ -27,6 +26,5 @@ pub record IsSound (method : Method) : Type 0 where
   pub parameters : AreKnownFields method.world.now method.code.now.parameters.now
   pub instructions : All (λ (p : Placed ℕ). InstructionIsLinked method.world.now
       (named_placed (pool_of method.code.now.pool.now) p).instruction) method.code.now.body.now.instructions
-  pub frames : All (HasLinkedEntries method.world.now (pool_of method.code.now.pool.now))
-      (map frame_of method.code.now.body.now.frames.items)
-  pub numbers : AreNumbers (map frame_of method.code.now.body.now.frames.items) method.numbers.now
+  pub frames : All (HasLinkedEntries method.world.now (pool_of method.code.now.pool.now)) method.code.now.body.now.frames
+  pub numbers : AreNumbers method.code.now.body.now.frames method.numbers.now

@@ -12,8 +12,7 @@ ghost use Rattle.stackmap_verify.specs.Environments.{Describes};
 
 use class_world::{ClassInfo, World};
 use instruction_types::Environment;
-use jv_types::ClassNo;
-use method_descriptors::is_text;
+use jv_types::{ClassNo, is_text};
 use type_rules::{FieldType, VerificationType};
 
 /// `java/lang/Object`

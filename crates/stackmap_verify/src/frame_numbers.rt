@@ -1,11 +1,10 @@
 //! Where the frames of a stack map stand.
 
-ghost use Rattle.std.specs.Prelude.{◌≡◌, ◌==◌, ℕ, ◌<◌, [], length, map, IfOk, OnOk, Some, if◌then◌else◌};
+ghost use Rattle.std.specs.Prelude.{◌≡◌, ◌==◌, ℕ, ◌<◌, [], length, IfOk, OnOk, Some, if◌then◌else◌};
 ghost use Rattle.jv_model.specs.Partial.{or_else};
-ghost use Rattle.jv_types.specs.Code.{frame_of};
 ghost use Rattle.stackmap_verify.specs.FrameNumbers.{number_in, number_if, AreNumbers};
 
-use jv_types::{List, MapFrame, NoMemory};
+use jv_types::{Frames, List, NoMemory};
 use std::alloc::Global;
 use std::marker::Model;
 
@@ -50,12 +49,12 @@ fn add_number(numbers: &mut List<Option<u32>>, pc: u32, number: u32) -> Result<(
 
 impl FrameNumbers {
     /// Those of some frames, unless there is no memory for them.
-    pub fn of(alloc: Global, frames: &List<MapFrame>) -> Result<FrameNumbers, NoMemory>
-        ensures { IfOk result (λ numbers. AreNumbers (map frame_of frames.now.items) numbers) }
+    pub fn of(alloc: Global, frames: &Frames) -> Result<FrameNumbers, NoMemory>
+        ensures { IfOk result (λ numbers. AreNumbers frames.now numbers) }
     {
         let mut numbers = List::new(alloc);
         for number in 0..frames.len() {
-            add_number(&mut numbers, frames.get(number).pc, number)?;
+            add_number(&mut numbers, frames.pc(number), number)?;
         }
         Ok(FrameNumbers { numbers })
     }

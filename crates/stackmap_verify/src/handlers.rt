@@ -1,8 +1,7 @@
 //! The handlers that cover an instruction (JVMS 4.10.1.6).
 
-ghost use Rattle.std.specs.Prelude.{◌≡◌, ◌∷◌, [], IfOk};
+ghost use Rattle.std.specs.Prelude.{◌≡◌, ◌∷◌, [], Bool, List as Items, IfOk, OnOk};
 ghost use Rattle.std.specs.List.{list_any};
-ghost use Rattle.std.specs.List.Sorted.{IsPermutation};
 ghost use Rattle.code_model.specs.Names.{named_handler};
 ghost use Rattle.typing_model.specs.Environment.{Environment as ModelEnvironment};
 ghost use Rattle.typing_model.specs.VerificationType.{class};
@@ -13,12 +12,14 @@ ghost use Rattle.jv_types.specs.declared.code.Handler.{Handler};
 ghost use Rattle.class_world.specs.World.{number_of, name_at};
 ghost use Rattle.type_rules.specs.Types.{IsKnown};
 ghost use Rattle.type_rules.specs.Frames.{types_of, frame_of, IsKnownFrame};
+ghost use Rattle.stackmap_verify.specs.Cover.{HasLeft, IsHere};
+ghost use Rattle.stackmap_verify.specs.Watch.{IsWatch};
 ghost use Rattle.stackmap_verify.specs.Methods.{IsMethod, IsSound};
 
 use crate::cover::Cover;
 use crate::maps::map_frame_at;
 use crate::method::Method;
-use jv_types::{ClassNo, Handler, NoMemory, Steps};
+use jv_types::{ClassNo, Handler, List, NoMemory, Steps};
 use member_types::names::class_name;
 use std::alloc::Global;
 use std::sync::ledger::Ledger;
@@ -143,23 +144,58 @@ fn one_of_misfits<L: Ledger>(
     Ok(false)
 }
 
+/// The handlers of a method while a pass goes along its code. Those that were looked at fit the
+/// locals, and aren't looked at again until other locals come.
+#[derive(Drop)]
+pub struct Watch {
+    pub cover: Cover,
+    pub locals: List<VerificationType>,
+}
+
+/// Takes over locals. Where they are others, no handler was looked at.
+fn watch_locals(watch: &mut Watch, locals: &[VerificationType]) -> Result<(), NoMemory>
+    ensures rows { watch.new.cover.rows ≡ watch.old.cover.rows }
+    ensures place { watch.new.cover.place ≡ watch.old.cover.place }
+    ensures locals { OnOk result (watch.new.locals.items ≡ locals.now) }
+    ensures here { OnOk result (IsHere watch.old.cover → IsHere watch.new.cover) }
+    ensures left { OnOk result ((test : Items VerificationType → Handler → Bool)
+        → HasLeft (test watch.old.locals.items) watch.old.cover
+        → HasLeft (test locals.now) watch.new.cover) }
+{
+    if watch.locals.as_slice() != locals {
+        watch.cover.renew()?;
+        watch.locals.cut(0);
+        watch.locals.append(locals)?;
+    }
+    Ok(())
+}
+
 /// Whether a handler of the method covers a place and doesn't fit the frame there.
 pub fn one_misfits<L: Ledger>(
     alloc: Global,
     method: &Method,
-    cover: &mut Cover,
+    watch: &mut Watch,
     pc: u32,
     frame: &TypeFrame,
     steps: &mut Steps<L>,
 ) -> Result<bool, NoMemory>
     requires method { IsSound method.now }
-    requires cover { IsPermutation method.now.code.now.body.now.handlers.items cover.old.rows }
+    requires watch { IsWatch method.now watch.old }
     requires frame { IsKnownFrame method.now.world.now frame.now }
     ensures misfits { IfOk result (λ wrong. (e : ModelEnvironment) → IsMethod method.now e
         → wrong ≡ list_any (model_misfits e pc (frame_of method.now.world.now frame.now))
         e.body.handlers) }
-    ensures rows { cover.new.rows ≡ cover.old.rows }
+    ensures watch { OnOk result (IsWatch method.now watch.new) }
 {
-    cover.come_to(pc)?;
-    one_of_misfits(alloc, method, pc, frame, cover.active(), steps)
+    watch.cover.come_to(pc)?;
+    if watch.cover.is_clear() {
+        return Ok(false);
+    }
+    watch_locals(watch, frame.locals())?;
+    let unseen = watch.cover.unseen();
+    if one_of_misfits(alloc, method, pc, frame, unseen, steps)? {
+        return Ok(true);
+    }
+    watch.cover.see();
+    Ok(false)
 }

@@ -24,8 +24,8 @@ pub fn map_frame_at(alloc: Global, method: &Method, pc: u32) -> Result<Option<Ty
     let Some(number) = method.numbers.at(pc) else {
         return Ok(None);
     };
-    let frame = method.code.body.frames.get(number);
-    Ok(Some(map_frame(alloc, method.world, method.code, frame)?))
+    let frame = method.code.body.frames.frame(alloc, number)?;
+    Ok(Some(map_frame(alloc, method.world, method.code, &frame)?))
 }
 
 /// Whether a map frame is at a place, and the frame goes to it. Each class looked at is a step.

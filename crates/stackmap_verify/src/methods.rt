@@ -16,8 +16,8 @@ use crate::error::VerifyError;
 use crate::failure::Place;
 use crate::kept::Kept;
 use crate::pass::Passed;
-use class_world::{ClassInfo, Origin, World, text_at};
-use jv_types::{ClassNo, CodeBody, List, Loaded, Member, NoMemory, Steps};
+use class_world::{ClassInfo, Origin, World};
+use jv_types::{ClassNo, CodeBody, List, Loaded, Member, NoMemory, Steps, text_at};
 use std::alloc::Global;
 use std::sync::ledger::Ledger;
 

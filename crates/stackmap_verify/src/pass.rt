@@ -9,10 +9,11 @@ ghost use Rattle.stackmap_verify.specs.Passed.{Passes};
 
 use crate::cover::Cover;
 use crate::failure::{Failure, Place};
+use crate::handlers::Watch;
 use crate::kept::Kept;
 use crate::method::Method;
 use crate::visit::{Trail, visit};
-use jv_types::{NoMemory, Steps};
+use jv_types::{List, NoMemory, Steps};
 use std::alloc::Global;
 use std::sync::ledger::Ledger;
 use type_rules::TypeFrame;
@@ -54,7 +55,11 @@ pub fn pass_over<L: Ledger>(
 {
     let instructions = &method.code.body.instructions;
     let cover = Cover::of(alloc, method.code.body.handlers.as_slice())?;
-    let mut trail = Trail { cover, kept };
+    let watch = Watch {
+        cover,
+        locals: List::new(alloc),
+    };
+    let mut trail = Trail { watch, kept };
     let mut flow = Some(start);
     for number in 0..instructions.len() {
         let insn = instructions.get(number);

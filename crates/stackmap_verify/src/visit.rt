@@ -1,7 +1,6 @@
 //! The rules at an instruction, in their order (JVMS 4.10.1.6).
 
 ghost use Rattle.std.specs.Prelude.{◌≡◌, ◌==◌, ◌&&◌, ℕ, ◌++◌, ◌∷◌, [], not, if◌then◌else◌, option_map, IfOk, IfSome, OnOk};
-ghost use Rattle.std.specs.List.Sorted.{IsPermutation};
 ghost use Rattle.jv_model.specs.Operand.{Operand};
 ghost use Rattle.jv_model.specs.Flow.{goes_on as model_goes_on};
 ghost use Rattle.code_model.specs.MappedInstruction.{mapped_instruction};
@@ -15,12 +14,12 @@ ghost use Rattle.jv_types.specs.Instruction.{instruction_of};
 ghost use Rattle.jv_types.specs.Instructions.{placed_of};
 ghost use Rattle.type_rules.specs.Frames.{Types, frame_of, IsKnownFrame};
 ghost use Rattle.stackmap_verify.specs.Methods.{IsMethod, IsSound};
+ghost use Rattle.stackmap_verify.specs.Watch.{IsWatch};
 ghost use Rattle.stackmap_verify.specs.Visits.{flow_of, HasFrame, Enters, StepsTo, Leaves};
 
-use crate::cover::Cover;
 use crate::failure::Failure;
 use crate::flow::{goes_on, goes_to_targets};
-use crate::handlers::one_misfits;
+use crate::handlers::{Watch, one_misfits};
 use crate::kept::Kept;
 use crate::maps::map_frame_at;
 use crate::method::Method;
@@ -133,14 +132,14 @@ fn flow_after(insn: &Insn, after: TypeFrame) -> Option<TypeFrame>
 pub fn leave<L: Ledger>(
     alloc: Global,
     method: &Method,
-    cover: &mut Cover,
+    watch: &mut Watch,
     insn: &Insn,
     is_last: bool,
     frame: TypeFrame,
     steps: &mut Steps<L>,
 ) -> Result<Option<TypeFrame>, Failure>
     requires method { IsSound method.now }
-    requires cover { IsPermutation method.now.code.now.body.now.handlers.items cover.old.rows }
+    requires watch { IsWatch method.now watch.old }
     requires linked { InstructionIsLinked method.now.world.now
         (named_placed (pool_of method.now.code.now.pool.now) (placed_of insn.now)).instruction }
     requires frame { IsKnownFrame method.now.world.now frame }
@@ -148,10 +147,10 @@ pub fn leave<L: Ledger>(
         → v.placed ≡ named_placed (pool_of method.now.code.now.pool.now) (placed_of insn.now)
         → v.is_last ≡ is_last → HasFrame e v (frame_of method.now.world.now frame)
         → Leaves method.now.world.now e v result }
-    ensures rows { cover.new.rows ≡ cover.old.rows }
+    ensures watch { OnOk result (IsWatch method.now watch.new) }
     ensures known { IfOk result (λ flow. IfSome flow (IsKnownFrame method.now.world.now)) }
 {
-    if one_misfits(alloc, method, cover, insn.pc, &frame, steps)? {
+    if one_misfits(alloc, method, watch, insn.pc, &frame, steps)? {
         return Err(Failure::Breaks(Rule::Handler));
     }
     let after = step(alloc, method, insn, frame, steps)?;
@@ -167,7 +166,7 @@ pub fn leave<L: Ledger>(
 /// What a pass takes along: the handlers, and the frames so far.
 #[derive(Drop)]
 pub struct Trail {
-    pub cover: Cover,
+    pub watch: Watch,
     pub kept: Kept,
 }
 
@@ -182,8 +181,7 @@ pub fn visit<L: Ledger>(
     steps: &mut Steps<L>,
 ) -> Result<Option<TypeFrame>, Failure>
     requires method { IsSound method.now }
-    requires cover { IsPermutation method.now.code.now.body.now.handlers.items
-        trail.old.cover.rows }
+    requires watch { IsWatch method.now trail.old.watch }
     requires linked { InstructionIsLinked method.now.world.now
         (named_placed (pool_of method.now.code.now.pool.now) (placed_of insn.now)).instruction }
     requires flow { IfSome flow (IsKnownFrame method.now.world.now) }
@@ -197,10 +195,10 @@ pub fn visit<L: Ledger>(
         → v.placed ≡ named_placed (pool_of method.now.code.now.pool.now) (placed_of insn.now)
         → v.flow ≡ flow_of method.now.world.now flow
         → model_frame_of e v ≡ Some (frame_of method.now.world.now frame))) }
-    ensures rows { trail.new.cover.rows ≡ trail.old.cover.rows }
+    ensures watch { OnOk result (IsWatch method.now trail.new.watch) }
     ensures known { IfOk result (λ flow. IfSome flow (IsKnownFrame method.now.world.now)) }
 {
     let frame = entry_frame(alloc, method, insn.pc, flow, steps)?;
     trail.kept.keep(alloc, &frame)?;
-    leave(alloc, method, &mut trail.cover, insn, is_last, frame, steps)
+    leave(alloc, method, &mut trail.watch, insn, is_last, frame, steps)
 }

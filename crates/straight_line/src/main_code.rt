@@ -19,10 +19,8 @@ ghost use Rattle.straight_line.specs.Programs.{body_found, instructions_found, A
 
 use crate::body::{Body, Instruction};
 use crate::instruction::instruction_of;
-use crate::names::text_at;
 use class_pool::is_named;
-use jv_types::{Attr, CodeBody, Const, Insn, List, Loaded, Member, NoMemory};
-use method_descriptors::is_text;
+use jv_types::{Attr, CodeBody, Const, Insn, List, Loaded, Member, NoMemory, is_text, text_at};
 use std::alloc::Global;
 
 /// ACC_STATIC (JVMS table 4.5-A).
@@ -113,7 +111,7 @@ fn begins_as_string(pool: &List<Const>, field: &Member) -> bool
     if !is_static(field) {
         return false;
     }
-    is_text(text_at(pool, field.descriptor), b"Ljava/lang/String;")
+    is_text(text_at(pool.as_slice(), field.descriptor), b"Ljava/lang/String;")
         && has_constant(pool, field.attributes.as_slice())
 }
 
@@ -121,8 +119,8 @@ fn begins_as_string(pool: &List<Const>, field: &Member) -> bool
 fn is_main(pool: &List<Const>, method: &Member) -> bool
     ensures { result ≡ is_main (method_of (pool_of pool.now.items) (member_of method.now) None) }
 {
-    is_text(text_at(pool, method.name), b"main")
-        && is_text(text_at(pool, method.descriptor), b"([Ljava/lang/String;)V")
+    is_text(text_at(pool.as_slice(), method.name), b"main")
+        && is_text(text_at(pool.as_slice(), method.descriptor), b"([Ljava/lang/String;)V")
 }
 
 /// Whether it is main or a constructor.
@@ -130,7 +128,7 @@ fn is_main_or_constructor(pool: &List<Const>, method: &Member) -> bool
     ensures { result ≡ is_main_or_constructor
         (method_of (pool_of pool.now.items) (member_of method.now) None) }
 {
-    is_main(pool, method) || is_text(text_at(pool, method.name), b"<init>")
+    is_main(pool, method) || is_text(text_at(pool.as_slice(), method.name), b"<init>")
 }
 
 /// Whether all of some methods are.

@@ -2,29 +2,18 @@
 
 ghost use Rattle.std.specs.Prelude.{◌≡◌, ◌&&◌, ℕ, List, bytes_eq};
 ghost use Rattle.run_model.specs.MainCode.{has_signature, is_member, is_out, is_println};
-ghost use Rattle.jv_model.specs.ConstantPool.{const_at, units_at};
+ghost use Rattle.jv_model.specs.ConstantPool.{const_at};
 ghost use Rattle.code_model.specs.Names.{class_name_at, member_of, operand_at};
 ghost use Rattle.jv_types.specs.ClassData.{pool_of};
 
-use jv_types::{Const, List};
-use method_descriptors::is_text;
-
-/// The text at an index, or none where no Utf8 entry is there.
-pub(crate) fn text_at(pool: &List<Const>, index: u16) -> &[u16]
-    ensures { result.now ≡ units_at (pool_of pool.now.items) index }
-{
-    match pool.as_slice().get(usize::from(index)) {
-        Some(Const::Utf8(text)) => text.as_slice(),
-        _ => &[],
-    }
-}
+use jv_types::{Const, List, is_text, text_at};
 
 /// The name of the class at an index, or none where no Class entry is there.
 fn class_name_at(pool: &List<Const>, index: u16) -> &[u16]
     ensures { result.now ≡ class_name_at (pool_of pool.now.items) index }
 {
     match pool.as_slice().get(usize::from(index)) {
-        Some(Const::Class(name)) => text_at(pool, *name),
+        Some(Const::Class(name)) => text_at(pool.as_slice(), *name),
         _ => &[],
     }
 }
@@ -35,7 +24,7 @@ fn name_at(pool: &List<Const>, index: u16) -> &[u16]
         ≡ (member_of (pool_of pool.now.items) class (const_at (pool_of pool.now.items) index)).name }
 {
     match pool.as_slice().get(usize::from(index)) {
-        Some(Const::NameAndType(name, _)) => text_at(pool, *name),
+        Some(Const::NameAndType(name, _)) => text_at(pool.as_slice(), *name),
         _ => &[],
     }
 }
@@ -46,7 +35,7 @@ fn descriptor_at(pool: &List<Const>, index: u16) -> &[u16]
         ≡ (member_of (pool_of pool.now.items) class (const_at (pool_of pool.now.items) index)).descriptor }
 {
     match pool.as_slice().get(usize::from(index)) {
-        Some(Const::NameAndType(_, descriptor)) => text_at(pool, *descriptor),
+        Some(Const::NameAndType(_, descriptor)) => text_at(pool.as_slice(), *descriptor),
         _ => &[],
     }
 }

@@ -6,22 +6,11 @@ ghost use Rattle.typing_model.specs.Assignable.{class_assignable as is_class_ass
 ghost use Rattle.type_rules.specs.Types.{IsKnown};
 
 use class_world::{ClassInfo, Origin, World};
-use jv_types::{ClassNo, Steps};
+use jv_types::{ClassNo, Steps, is_text};
 use std::sync::ledger::Ledger;
 
 /// Access flag of an interface (JVMS table 4.1-A).
 const ACC_INTERFACE: u16 = 0x0200;
-
-/// Whether the units are those of a text in ASCII.
-fn is_text(units: &[u16], text: &[u8]) -> bool
-    ensures { result ≡ bytes_eq units.now text.now }
-{
-    units.len() == text.len()
-        && units
-            .iter()
-            .zip(text)
-            .all(|(unit, byte)| *unit == u16::from(*byte))
-}
 
 /// Whether a class has a name, in ASCII.
 pub fn has_name(world: &World, class: ClassNo, name: &[u8]) -> bool

@@ -20,21 +20,23 @@ pub enum Place {
     Operand,
 }
 
-/// Whether a type at a place goes where another is wanted.
+/// Whether a type at a place goes where another is wanted. Any goes where a local is Top.
+#[tactic(auto, unfolding(typing_model::specs::Assignable::assignable))]
 fn goes<L: Ledger>(
     world: &World,
     place: Place,
-    from: VerificationType,
-    to: VerificationType,
+    from: &VerificationType,
+    to: &VerificationType,
     steps: &mut Steps<L>,
 ) -> bool
-    requires from { IsKnownType world.now from }
-    requires to { IsKnownType world.now to }
-    ensures { result ≡ goes_in place world.now (type_of world.now from) (type_of world.now to) }
+    requires from { IsKnownType world.now from.now }
+    requires to { IsKnownType world.now to.now }
+    ensures { result
+        ≡ goes_in place world.now (type_of world.now from.now) (type_of world.now to.now) }
 {
     match place {
-        Place::Local => assignable(world, from, to, steps),
-        Place::Operand => operand_assignable(world, from, to, steps),
+        Place::Local => matches!(to, VerificationType::Top) || assignable(world, *from, *to, steps),
+        Place::Operand => operand_assignable(world, *from, *to, steps),
     }
 }
 
@@ -54,7 +56,7 @@ fn all_go<L: Ledger>(
         return false;
     }
     for (number, type_from) in from.iter().enumerate() {
-        if !goes(world, place, *type_from, to[number], steps) {
+        if !goes(world, place, type_from, &to[number], steps) {
             return false;
         }
     }

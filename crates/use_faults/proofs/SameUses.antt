@@ -9,7 +9,7 @@ use Rattle.world_model.specs.World.{World}
 use Rattle.link_model.specs.Uses as model
 use Rattle.link_model.specs.Uses.{uses_of}
 use Rattle.link_model.specs.UseFaults.{resolves, wrong_uses}
-use Rattle.class_faults.specs.Uses.{used_of, uses_in}
+use Rattle.class_faults.specs.Uses.{used_of, uses_in, HaveOneLeast}
 use Rattle.class_faults.specs.declared.uses.Use.{Use}
 use Rattle.class_faults.specs.declared.uses.Use.TheVariants.{Superclass, Interface, FieldDescriptor, MethodDescriptor, Field, Method, New, ReferenceType}
 use Rattle.class_faults.specs.declared.uses.Used.{Used}
@@ -70,13 +70,13 @@ wrong_each world file (used ∷ uses) =
     wrong_by (resolves world file used.index used.use_as) used
     (filter (λ (u : model.Used). not (resolves world file u.index u.use_as)) uses) _ (wrong_each world file uses)
 
-pub wrong_all : (world : World) (loaded : LoadedClass) (uses : List Used) → uses_in uses ≡ uses_of loaded
+pub wrong_all : (world : World) (loaded : LoadedClass) (uses : List Used) → HaveOneLeast (uses_in uses) (uses_of loaded)
     → least (flat_map (wrong_read world loaded.file) uses)
     ≡ least (map (λ (u : model.Used). u.index) (wrong_uses world loaded))
-wrong_all world loaded uses is =
-    ap least (sym (flat_map-map (wrong_index world loaded.file) used_of uses)
-    ∙ ap (flat_map (wrong_index world loaded.file)) is
-    ∙ sym (wrong_each world loaded.file (uses_of loaded)))
+wrong_all world loaded uses are =
+    ap least (sym (flat_map-map (wrong_index world loaded.file) used_of uses))
+    ∙ are (wrong_index world loaded.file)
+    ∙ ap least (sym (wrong_each world loaded.file (uses_of loaded)))
 
 -- a use that doesn't resolve, and one that does
 pub wrong_here : (world : World) (file : ClassData) (used : Used) (does : Bool)

@@ -23,10 +23,6 @@ wrong_index world file used = if resolves world file used.index used.use_as then
 abbrev pub wrong_read : World → ClassData → read.Used → List ℕ
 wrong_read world file used = wrong_index world file (used_of used)
 
--- the least number that one of some uses has is that of others, whatever they have
-abbrev pub HaveOneLeast : List read.Used → List read.Used → Type 0
-HaveOneLeast some all = (has : read.Used → List ℕ) → least (flat_map has some) ≡ least (flat_map has all)
-
 -- what is wrong with the entries that a class of the program uses
 abbrev pub use_fault_at : World → Class → Option Cause
 use_fault_at world class = first_of (use_fault world) (loaded_classes (filter is_user (class ∷ [])))

@@ -12,10 +12,9 @@ ghost use Rattle.use_faults.specs.Finals.{Grows, IsNumberOf, AreFinals, AddsFina
 
 use crate::members::own_method_flags;
 use class_faults::{ACC_FINAL, ACC_PRIVATE, ACC_STATIC, has_flag};
-use class_world::{Origin, World, text_at};
+use class_world::{Origin, World};
 use indexmap::IndexSet;
-use jv_types::{ClassNo, Const, List, Loaded, Member, NoMemory};
-use method_descriptors::is_text;
+use jv_types::{ClassNo, Const, List, Loaded, Member, NoMemory, is_text, text_at};
 use std::alloc::Global;
 
 /// What methods that override each other have in common (JVMS 5.4.5).

@@ -13,8 +13,7 @@ use crate::classes::{class_in, is_interface, names_interface};
 use crate::references::MemberReference;
 use class_faults::{ACC_ABSTRACT, ACC_NATIVE, ACC_STATIC, has_flag};
 use class_world::{ClassInfo, FieldPlace, Origin, World};
-use jv_types::{ClassNo, MethodNo, Steps};
-use method_descriptors::is_text;
+use jv_types::{ClassNo, MethodNo, Steps, is_text};
 use std::marker::Brand;
 use std::sync::ledger::{Blank, Ledger};
 

@@ -15,9 +15,9 @@ ghost use Rattle.use_faults.specs.Finals.{AreFinalMethods, DeclareWith, DeclareU
 
 use crate::classes::{class_flags, class_in, program_class};
 use crate::final_methods::{FinalMethods, NameAndType, is_virtual};
-use class_faults::{ACC_FINAL, class_name_at, has_flag, name_of};
-use class_world::{World, text_at};
-use jv_types::{Cause, ClassNo, Const, List, Loaded, Member, NoMemory};
+use class_faults::{ACC_FINAL, has_flag, name_of};
+use class_world::{World, class_name_at};
+use jv_types::{Cause, ClassNo, Const, List, Loaded, Member, NoMemory, text_at};
 use std::alloc::Global;
 
 /// Adds a class that declares a final method itself.

@@ -6,9 +6,8 @@ ghost use Rattle.jv_model.specs.ConstantPool.{const_at};
 ghost use Rattle.jv_types.specs.ClassData.{pool_of};
 ghost use Rattle.use_faults.specs.References.{reference_of};
 
-use class_faults::class_name_at;
-use class_world::text_at;
-use jv_types::Const;
+use class_world::class_name_at;
+use jv_types::{Const, text_at};
 
 /// A field or a method, by the names that a class uses for it.
 #[derive(Clone, Copy, Debug)]

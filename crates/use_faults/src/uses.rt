@@ -9,8 +9,8 @@ ghost use Rattle.link_model.specs.UseFaults.{is_class_where, fits_superclass, ca
 ghost use Rattle.jv_types.specs.ClassData.{class_data_of, pool_of};
 ghost use Rattle.jv_types.specs.Loaded.{loaded_of};
 ghost use Rattle.jv_types.specs.Refusal.{cause_of};
-ghost use Rattle.class_faults.specs.Uses.{use_of};
-ghost use Rattle.use_faults.specs.Wrong.{wrong_read, use_fault_at, HaveOneLeast};
+ghost use Rattle.class_faults.specs.Uses.{use_of, HaveOneLeast};
+ghost use Rattle.use_faults.specs.Wrong.{wrong_read, use_fault_at};
 
 use crate::classes::{
     class_flags, class_in, is_interface, is_there, names_interface, program_class,
@@ -18,14 +18,11 @@ use crate::classes::{
 use crate::members::{resolves_field, resolves_method};
 use crate::references::member_at;
 use crate::types::{field_type_is_there, method_type_is_there};
-use class_faults::{
-    ACC_ABSTRACT, ACC_INTERFACE, Use, Used, class_name_at, has_flag, lesser, list_uses, name_of,
-};
+use class_faults::{ACC_ABSTRACT, ACC_INTERFACE, Use, Used, has_flag, lesser, list_uses, name_of};
 use class_pool::names;
-use class_world::{World, text_at};
+use class_world::{World, class_name_at};
 use indexmap::IndexSet;
-use jv_types::{Cause, ClassData, List, Loaded, NoMemory, tag};
-use method_descriptors::is_text;
+use jv_types::{Cause, ClassData, List, Loaded, NoMemory, is_text, tag, text_at};
 use std::alloc::Global;
 
 const BRACKET: u16 = 0x5b;

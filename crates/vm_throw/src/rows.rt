@@ -1,7 +1,7 @@
 //! Rows of exception tables (JVMS 4.7.3).
 
 ghost use Rattle.std.specs.Prelude.{◌≡◌, ◌+◌, ◌*◌, ◌<◌, ◌≤◌, ◌&&◌, find, length, nat_le, nat_lt, option_map};
-ghost use Rattle.code_model.specs.Names.{class_name_at, operand_at};
+ghost use Rattle.code_model.specs.Names.{operand_at};
 ghost use Rattle.world_model.specs.Supertypes.{field_order, is_sub};
 ghost use Rattle.typing_model.specs.Environment.{class_of};
 ghost use Rattle.link_laws.specs.Above.{IsSound};
@@ -10,19 +10,9 @@ ghost use Rattle.jv_types.specs.ClassData.{pool_of};
 ghost use Rattle.class_world.specs.World.{name_at};
 ghost use Rattle.vm_throw.specs.Handlers.{named_row, takes};
 
-use class_world::{World, text_at};
+use class_world::{World, class_name_at};
 use jv_types::{ClassNo, Const, Handler, Pc, Steps};
 use std::sync::ledger::Ledger;
-
-/// The name in the Class entry at an index, or none where no such entry is there.
-fn class_text(pool: &[Const], index: u16) -> &[u16]
-    ensures { result.now ≡ class_name_at (pool_of pool.now) index }
-{
-    match pool.get(usize::from(index)) {
-        Some(Const::Class(name)) => text_at(pool, *name),
-        _ => &[],
-    }
-}
 
 /// The class that an index names, where it names no member and no constant.
 #[tactic(auto, unfolding(code_model::specs::Names::operand_at))]
@@ -39,7 +29,7 @@ fn class_name(pool: &[Const], index: u16) -> Option<&[u16]>
             | Const::Methodref(_, _)
             | Const::InterfaceMethodref(_, _),
         ) => None,
-        _ => Some(class_text(pool, index)),
+        _ => Some(class_name_at(pool, index)),
     }
 }
 

@@ -6,8 +6,8 @@ ghost use Rattle.world_literals.specs.Literals.{have, literals_of, named_literal
 ghost use Rattle.world_literals.specs.Growing.{with_all};
 
 use class_names::Names;
-use class_world::{Origin, World, text_at};
-use jv_types::{ClassNo, Const, NoMemory};
+use class_world::{Origin, World};
+use jv_types::{ClassNo, Const, NoMemory, text_at};
 use literal_table::LiteralTable;
 use std::alloc::Global;
 

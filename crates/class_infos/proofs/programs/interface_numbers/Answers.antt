@@ -8,7 +8,7 @@ use Rattle.class_infos.proofs.programs.interface_numbers.Goals as goal
 
 pub loop-interface-preserved : goal.loop-interface-preserved
 loop-interface-preserved c =
-    let found = c.number_of.ensures.number ∙ ap (λ (t : List ℕ). position (bytes_eq t) c.args.names.now) c.name_at.ensures in
+    let found = c.number_of.ensures.number ∙ ap (λ (t : List ℕ). position (bytes_eq t) c.args.names.now) c.class_name_at.ensures in
     added_found (λ (l : List ℕ). filter_map (number_in c.args.names.now) (map (class_name_at (pool_of c.args.pool.now)) l))
     (λ (n : ℕ). number_in c.args.names.now (class_name_at (pool_of c.args.pool.now) n)) refl (λ x xs. refl)
     c.args.interfaces.now c.loop-interface.interface-index 0 _ _ _ (omega arith)

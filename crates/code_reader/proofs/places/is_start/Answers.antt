@@ -6,5 +6,5 @@ use Rattle.code_reader.proofs.places.is_start.Goals as goal
 
 pub returns : goal.returns
 returns c =
-    c.is_some.ensures ∙ ap is_some c.number_at.ensures
+    c.is_some.ensures ∙ ap is_some c.number_at.ensures.found
     ∙ position_is_any (starts_at c.args.place) c.args.instructions.now

@@ -17,7 +17,7 @@ pub returns-then-is_made_at-clause-same : goal.returns-then-is_made_at-clause-sa
 returns-then-is_made_at-clause-same c = λ e has.
     let name = c.args.class.now in
     let class = found-name c.args.world.now name c.unwrap-made.result (sym c.class_named.ensures ∙ c.unwrap-made.ensures) in
-    let made = made-at e name c.args.pc (pool_of c.args.code.now.pool.now) _ _ has c.as_slice.ensures
+    let made = made-at e name c.args.pc (pool_of c.args.code.now.pool.now) _ has
     ∙ sym c.is_made_at.ensures ∙ c.if-is_made_at.true in
     ap (λ (n : List ℕ). Some (model.class n)) class ∙ sym (λ i. if made i then Some (model.class name) else None)
 
@@ -28,6 +28,6 @@ returns-then-is_made_at-clause-known c =
 pub returns-else-is_made_at-clause-same : goal.returns-else-is_made_at-clause-same
 returns-else-is_made_at-clause-same c = λ e has.
     let name = c.args.class.now in
-    let made = made-at e name c.args.pc (pool_of c.args.code.now.pool.now) _ _ has c.as_slice.ensures
+    let made = made-at e name c.args.pc (pool_of c.args.code.now.pool.now) _ has
     ∙ sym c.is_made_at.ensures ∙ c.if-is_made_at.false in
     sym (λ i. if made i then Some (model.class name) else None)

@@ -6,7 +6,7 @@ use Rattle.jv_model.specs.ConstantPool.{units_at}
 use Rattle.code_model.specs.Names.{named, named_placed}
 use Rattle.linked_laws.specs.Code.{InstructionIsLinked}
 use Rattle.jv_types.specs.ClassData.{pool_of}
-use Rattle.jv_types.specs.Code.{body_of, frame_of}
+use Rattle.jv_types.specs.Code.{body_of}
 use Rattle.jv_types.specs.declared.class_data.Const.{Const}
 use Rattle.type_rules.specs.Types.{field_type_of}
 use Rattle.instruction_types.specs.Environment.{IsEnvironment}
@@ -32,7 +32,7 @@ pass_over-requires-clause-method g c =
       instructions = subst (λ (p : List Const). All (λ (q : Placed ℕ). InstructionIsLinked w (named_placed (pool_of p) q).instruction) body.instructions)
           (sym c.as_slice-pool.ensures)
           (instructions_there w c.args.coded.now.class.now loaded c.args.coded.now.member.now body c.requires.class c.requires.linked);
-      frames = subst (λ (p : List Const). All (HasLinkedEntries w (pool_of p)) (map frame_of body.frames.items))
+      frames = subst (λ (p : List Const). All (HasLinkedEntries w (pool_of p)) body.frames)
           (sym c.as_slice-pool.ensures)
           (frames_there w c.args.coded.now.class.now loaded c.args.coded.now.member.now body c.requires.class c.requires.linked);
       numbers = c.in_ok-numbers.ensures;

@@ -1,5 +1,4 @@
 use Rattle.std.proofs.Common.{ℕ, ◌+◌, ◌==◌, Some, is_some, ap, sym, subst, refl, ◌∙◌, arith}
-use Rattle.std.specs.List.Sorted.{IsPermutation}
 use Rattle.jv_types.specs.Instructions.{placed_of}
 use Rattle.jv_types.specs.Refusal.{rule_of}
 use Rattle.stackmap_verify.specs.Visits.{flow_of, Stops}
@@ -15,7 +14,7 @@ loop-number-preserved g c =
     let placed = placed_of c.get-insn.result.now in
     let next = flow_of w c.in-Ok.next in
     record {
-      cover = subst (IsPermutation method.code.now.body.now.handlers.items) (sym c.in-Ok.ensures.rows) c.loop-number.invariant.cover;
+      watch = c.in-Ok.ensures.watch;
       known = c.in-Ok.ensures.known;
       so_far = λ e is start.
           let leaves = c.in-Ok.ensures.leaves e is (visit_here method e is flow n placed c.get-insn.ensures) refl refl

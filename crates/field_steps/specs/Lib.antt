@@ -1,0 +1,2 @@
+-- where steps over fields begin
+pub mod Fields

@@ -1,0 +1,6 @@
+-- references
+pub mod Ids
+-- values in words
+pub mod Words
+-- objects
+pub mod Objects

@@ -1,0 +1,2 @@
+-- a linked world with its tables
+pub mod Opened

@@ -1,0 +1,5 @@
+pub mod Parts
+pub mod Rooms
+pub mod Moves
+-- steps
+pub mod Steps

@@ -1,0 +1,4 @@
+-- threads
+pub mod Threads
+-- what holds of them
+pub mod Laws

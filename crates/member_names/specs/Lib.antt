@@ -1,0 +1,4 @@
+-- names of numbers
+pub mod Names
+-- what look-up by them gives
+pub mod Laws
