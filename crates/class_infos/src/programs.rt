@@ -39,7 +39,10 @@ fn interface_numbers(
 {
     let mut numbers = List::new(alloc);
     for interface in interfaces {
-        push_found(&mut numbers, names.number_of(class_name_at(pool, *interface)))?;
+        push_found(
+            &mut numbers,
+            names.number_of(class_name_at(pool, *interface)),
+        )?;
     }
     Ok(numbers)
 }

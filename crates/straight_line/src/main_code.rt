@@ -111,8 +111,10 @@ fn begins_as_string(pool: &List<Const>, field: &Member) -> bool
     if !is_static(field) {
         return false;
     }
-    is_text(text_at(pool.as_slice(), field.descriptor), b"Ljava/lang/String;")
-        && has_constant(pool, field.attributes.as_slice())
+    is_text(
+        text_at(pool.as_slice(), field.descriptor),
+        b"Ljava/lang/String;",
+    ) && has_constant(pool, field.attributes.as_slice())
 }
 
 /// Whether a method has the name and the descriptor of main.
@@ -120,7 +122,10 @@ fn is_main(pool: &List<Const>, method: &Member) -> bool
     ensures { result ≡ is_main (method_of (pool_of pool.now.items) (member_of method.now) None) }
 {
     is_text(text_at(pool.as_slice(), method.name), b"main")
-        && is_text(text_at(pool.as_slice(), method.descriptor), b"([Ljava/lang/String;)V")
+        && is_text(
+            text_at(pool.as_slice(), method.descriptor),
+            b"([Ljava/lang/String;)V",
+        )
 }
 
 /// Whether it is main or a constructor.
