@@ -51,6 +51,68 @@ popped_on stacks t next frame older below value newest is =
         ∙ ap (λ (words : List Value). record newest.thread { frames = record frame { pc = next; stack = words } ∷ older; mark = false }) (left_below below frame.stack value is)
         ∙ ap (λ (frames : List FrameState). record newest.thread { frames = change_newest (λ (f : FrameState). record f { pc = next; stack = below }) frames; mark = false }) (sym newest.frames)
 
+-- ---- after an operand was popped
+
+pub still_newest : (stacks : Threads) (t : ℕ) (frame : FrameState) (older : List FrameState) (change : FrameState → FrameState)
+    → IsNewest stacks t frame older → IsNewest (change_thread t (with_frames (change_newest change)) stacks) t (change frame) older
+still_newest stacks t frame older change newest_is = record {
+  thread = with_frames (change_newest change) newest_is.thread;
+  there = slice_get-replace_same (with_frames (change_newest change)) stacks.threads t
+      ∙ ap (option_map (with_frames (change_newest change))) newest_is.there;
+  frames = ap (change_newest change) newest_is.frames;
+}
+
+pub newest_after : (stacks changed : Threads) (t : ℕ) (frame : FrameState) (older : List FrameState) (change : FrameState → FrameState)
+    → IsNewest stacks t frame older → changed ≡ change_thread t (with_frames (change_newest change)) stacks
+    → IsNewest changed t (change frame) older
+newest_after stacks changed t frame older change newest_is is =
+    subst (λ (s : Threads). IsNewest s t (change frame) older) (sym is) (still_newest stacks t frame older change newest_is)
+
+-- what was popped before it doesn't show
+after_popped : (stacks : Threads) (t next count : ℕ) (frame : FrameState) (older : List FrameState) (words : List Value)
+    → IsNewest stacks t frame older
+    → change_thread t (goes_to next words false) (change_thread t (with_frames (change_newest (with_popped count))) stacks)
+    ≡ change_thread t (goes_to next words false) stacks
+after_popped stacks t next count frame older words newest_is =
+    ap (λ (threads : List Thread). record stacks { threads = threads })
+    (changed_twice (with_frames (change_newest (with_popped count))) (goes_to next words false) (goes_to next words false)
+    stacks.threads t newest_is.thread newest_is.there one)
+  where
+    one : goes_to next words false (with_frames (change_newest (with_popped count)) newest_is.thread) ≡ goes_to next words false newest_is.thread
+    one = ap (λ (frames : List FrameState). goes_to next words false (record newest_is.thread { frames = change_newest (with_popped count) frames })) newest_is.frames
+        ∙ ap (λ (frames : List FrameState). goes_to next words false (record newest_is.thread { frames = frames })) (sym newest_is.frames)
+
+-- a value is popped, and another pushed
+pub pop_push_on : (stacks popped pushed went : Threads) (t next : ℕ) (frame : FrameState) (older : List FrameState) (below : List Value)
+    (top value : Value) → IsNewest stacks t frame older → frame.stack ≡ below ++ words_of top
+    → popped ≡ change_thread t (with_frames (change_newest (with_popped (places_of top)))) stacks
+    → pushed ≡ change_thread t (with_frames (change_newest (with_pushed value))) popped
+    → went ≡ change_thread t (on next) pushed
+    → went ≡ change_thread t (goes_to next (below ++ words_of value) false) stacks
+pop_push_on stacks popped pushed went t next frame older below top value newest_is is popped_is pushed_is went_is =
+    went_is ∙ ap (change_thread t (on next)) pushed_is
+    ∙ pushed_on popped t next (with_popped (places_of top) frame) older value
+    (newest_after stacks popped t frame older (with_popped (places_of top)) newest_is popped_is)
+    ∙ ap (λ (words : List Value). change_thread t (goes_to next (words ++ words_of value) false) popped) (left_below below frame.stack top is)
+    ∙ ap (change_thread t (goes_to next (below ++ words_of value) false)) popped_is
+    ∙ after_popped stacks t next (places_of top) frame older (below ++ words_of value) newest_is
+
+-- a value is popped, and another below it
+pub pop_pop_on : (stacks popped twice went : Threads) (t next : ℕ) (frame : FrameState) (older : List FrameState)
+    (middle below : List Value) (top second : Value) → IsNewest stacks t frame older
+    → frame.stack ≡ middle ++ words_of top → middle ≡ below ++ words_of second
+    → popped ≡ change_thread t (with_frames (change_newest (with_popped (places_of top)))) stacks
+    → twice ≡ change_thread t (with_frames (change_newest (with_popped (places_of second)))) popped
+    → went ≡ change_thread t (on next) twice
+    → went ≡ change_thread t (goes_to next below false) stacks
+pop_pop_on stacks popped twice went t next frame older middle below top second newest_is is middle_is popped_is twice_is went_is =
+    went_is ∙ ap (change_thread t (on next)) twice_is
+    ∙ popped_on popped t next (with_popped (places_of top) frame) older below second
+    (newest_after stacks popped t frame older (with_popped (places_of top)) newest_is popped_is)
+    (left_below middle frame.stack top is ∙ middle_is)
+    ∙ ap (change_thread t (goes_to next below false)) popped_is
+    ∙ after_popped stacks t next (places_of top) frame older below newest_is
+
 -- ---- the newest frame
 
 pub its_method : (stacks : Threads) (t : ℕ) (frame : FrameState) (older : List FrameState) (method : MethodNo) → IsNewest stacks t frame older
@@ -77,13 +139,7 @@ pub still_has_frame : (stacks changed : Threads) (t : ℕ) (frame : FrameState) 
     → IsNewest stacks t frame older → changed ≡ change_thread t (with_frames (change_newest change)) stacks
     → IsOf changed t (λ thread. 0 < length thread.frames)
 still_has_frame stacks changed t frame older change newest_is is =
-    has_frame changed t (change frame) older (record {
-      thread = with_frames (change_newest change) newest_is.thread;
-      there = ap (λ (s : Threads). slice_get s.threads t) is
-          ∙ slice_get-replace_same (with_frames (change_newest change)) stacks.threads t
-          ∙ ap (option_map (with_frames (change_newest change))) newest_is.there;
-      frames = ap (change_newest change) newest_is.frames;
-    })
+    has_frame changed t (change frame) older (newest_after stacks changed t frame older change newest_is is)
 
 pub at_newest : (stacks : Threads) (t : ℕ) (frame : FrameState) (older : List FrameState) (P : FrameState → Type 0) → IsNewest stacks t frame older
     → IsOf stacks t (λ thread. IsSomeAnd (newest thread.frames) P) → P frame

@@ -6,3 +6,11 @@ pub mod Going
 pub mod Reading
 -- putstatic
 pub mod Writing
+-- what the fields of objects hold
+pub mod Places
+-- the objects
+pub mod Receivers
+-- getfield
+pub mod Getting
+-- putfield
+pub mod Putting

@@ -1,5 +1,5 @@
 -- Where steps over fields begin.
-use Rattle.std.specs.Prelude.{◌≡◌, ◌≤◌, ◌+◌, ℕ, true, Option, Some, option_and_then}
+use Rattle.std.specs.Prelude.{◌≡◌, ◌≤◌, ◌+◌, ℕ, true, false, Option, Some, option_and_then}
 use Rattle.jv_model.specs.Instruction.{Instruction}
 use Rattle.jv_model.specs.ClassData.{fieldref}
 use Rattle.jv_model.specs.ConstantPool.{const_at}
@@ -27,6 +27,12 @@ pub record LeadsToStatic (world : World) (class : ClassNo) (index : ℕ) : Type 
   pub found : Found Field
   pub named : target_at world class index ≡ Some (a_field found)
   pub static : is_static_field found.member ≡ true
+
+-- The entry at an index of the pool of a class leads to a field of objects.
+pub record LeadsToPlace (world : World) (class : ClassNo) (index : ℕ) : Type 0 where
+  pub found : Found Field
+  pub named : target_at world class index ≡ Some (a_field found)
+  pub own : is_static_field found.member ≡ false
 
 -- What looking up the entry at an index of the pool of a class leaves. What stands for what it leads to is kept, and what
 -- was kept is kept. What was kept there costs no step, and what wasn't at most as many as the named class has supertypes.

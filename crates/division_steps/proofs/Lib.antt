@@ -1,0 +1,2 @@
+-- what divisions come to
+pub mod Dividing

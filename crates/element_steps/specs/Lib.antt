@@ -1,0 +1,2 @@
+-- arrays that operands name
+pub mod Arrays

@@ -1,0 +1,4 @@
+-- an object that changes
+pub mod Changed
+-- elements of arrays
+pub mod Elements

@@ -1,0 +1,2 @@
+-- what lies on top
+pub mod Operands

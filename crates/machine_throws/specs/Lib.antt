@@ -1,0 +1,4 @@
+-- classes that are thrown
+pub mod Names
+-- what a step comes to
+pub mod Outcomes

@@ -1,0 +1,2 @@
+-- fields of objects
+pub mod Fields
